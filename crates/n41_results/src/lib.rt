@@ -7,6 +7,8 @@ mod openings;
 mod replies;
 mod results;
 mod sessions;
+#[cfg(test)]
+mod tests;
 
 pub use callbacks::{
     CbArg, CbArgs, CbBody, CbCall, CbOps, CbRecall, CbRecallAny, CbReply, CbRes, CbResults,
