@@ -1,62 +1,91 @@
 use crate::{Cause, Event, Journal};
-use n41_types::{Command, Label, Path};
-use std::alloc::AllocError;
+use n41_types::{Bytes, Command, Label};
+use std::alloc::{AllocError, Global};
 
 fn sent<T: Send>(value: T) -> T {
     value
 }
 
-#[test]
-fn events_keep_their_places(rt: HostRuntime) -> Result<(), AllocError> {
-    let mut journal = sent(Journal::new(rt.alloc()));
-    assert!(rt; journal.get(1).is_none());
-    for moment in 0..100_000 {
-        assert!(rt; journal.push(Event::Ticked { moment }).is_ok());
+fn is_pushed(journal: &mut Journal, event: Event) -> bool {
+    journal.push(event).is_ok()
+}
+
+fn ticked(journal: &mut Journal, moments: u64) -> bool {
+    for moment in 0..moments {
+        if !is_pushed(journal, Event::Ticked { moment }) {
+            return false;
+        }
     }
-    journal.reserve(1)?;
-    assert!(rt; journal.push(Event::Quit).is_ok());
-    let room = journal.room();
-    assert_eq!(rt; room, 1);
+    true
+}
+
+fn moment_at(journal: &Journal, place: u64) -> Option<u64> {
+    match journal.get(place) {
+        Some(Event::Ticked { moment }) => Some(*moment),
+        _ => None,
+    }
+}
+
+fn is_broken_at(journal: &Journal, place: u64) -> bool {
+    matches!(
+        journal.get(place),
+        Some(Event::Broke {
+            conn: 7,
+            cause: Cause::Old(3)
+        })
+    )
+}
+
+fn break_in_room(journal: &mut Journal) -> bool {
+    if journal.reserve(1).is_err() {
+        return false;
+    }
     journal.add(Event::Broke {
         conn: 7,
         cause: Cause::Old(3),
     });
-    assert_eq!(rt; journal.len(), 100_002);
-    assert!(rt; journal.get(0).is_none());
-    assert!(rt; journal.get(100_003).is_none());
-    for (place, event) in [
-        (1, Event::Ticked { moment: 0 }),
-        (100_000, Event::Ticked { moment: 99_999 }),
-        (100_001, Event::Quit),
-        (
-            100_002,
-            Event::Broke {
-                conn: 7,
-                cause: Cause::Old(3),
-            },
-        ),
+    true
+}
+
+#[test]
+fn events_keep_their_places(rt: HostRuntime) {
+    let mut journal = sent(Journal::new(rt.alloc()));
+    assert_eq!(rt; journal.len(), 0);
+    assert!(rt; ticked(&mut journal, 100_000));
+    assert!(rt; break_in_room(&mut journal));
+    assert_eq!(rt; journal.room(), 0);
+    assert_eq!(rt; journal.len(), 100_001);
+    assert_eq!(rt; journal.as_slice().len(), 100_001);
+    for (place, want) in [
+        (0, None),
+        (1, Some(0)),
+        (100_000, Some(99_999)),
+        (100_002, None),
     ] {
-        assert!(rt; journal.get(place) == Some(&event), "at {place}");
+        assert_eq!(rt; moment_at(&journal, place), want);
     }
-    assert_eq!(rt; journal.as_slice().len(), 100_002);
-    Ok(())
+    assert!(rt; is_broken_at(&journal, 100_001));
+}
+
+fn event(alloc: Global) -> Result<Event, AllocError> {
+    Ok(Event::Began {
+        caller: 1,
+        number: 2,
+        command: Command::Close {
+            label: Label::new(Bytes::copy_from_slice(alloc, b"f")?),
+        },
+        moment: 3,
+    })
+}
+
+fn copy_is_equal(event: &Event) -> Result<bool, AllocError> {
+    let copy = event.clone()?;
+    Ok(copy == *event)
 }
 
 #[test]
 fn a_copy_of_an_event_is_equal(rt: HostRuntime) -> Result<(), AllocError> {
-    let alloc = rt.alloc();
-    let event = Event::Began {
-        caller: 1,
-        number: 2,
-        command: Command::Create {
-            label: Label::new(n41_types::Bytes::copy_from_slice(alloc, b"f")?),
-            path: Path::from_vec(alloc, Vec::new(alloc))?,
-            guarded: true,
-        },
-        moment: 3,
-    };
-    let copy = event.clone()?;
-    assert!(rt; copy == event);
-    assert!(rt; copy != Event::Quit);
+    let event = event(rt.alloc())?;
+    assert!(rt; copy_is_equal(&event)?);
     Ok(())
 }
