@@ -1,5 +1,5 @@
 -- The formats of the basic types are lawful.
-use Rattle.std.proofs.Common.{◌≡◌, ℕ, zero, suc, ◌+◌, ◌^◌, ◌<◌, ◌≤◌, Bool, true, false, cond, ltb, eqb, List, [], ◌∷◌, ◌++◌, length, take, drop, replicate, Result, Ok, Err, refl, sym, ap, subst, ◌∙◌, append_assoc, arith, inl, inr, ◌⊎◌}
+use Rattle.std.proofs.Common.{◌≡◌, ℕ, zero, suc, ◌+◌, ◌^◌, ◌<◌, ◌≤◌, Bool, true, false, cond, ltb, eqb, List, [], ◌∷◌, ◌++◌, length, take, drop, replicate, Ok, Err, refl, sym, ap, subst, ◌∙◌, arith, inl, inr, ◌⊎◌}
 use Rattle.std.specs.Bool.{MatchBool}
 use Rattle.std.specs.Int.{Width, w32, w64, byte_len, from_be_bytes, to_be_bytes}
 use Rattle.std.proofs.lemmas.Bool.{ltb-false, le-ltb, eqb-true, eq-eqb, and_parts}
@@ -9,11 +9,11 @@ use Rattle.n41_xdr.specs.declared.fault.XdrFault.{XdrFault}
 use Rattle.n41_xdr.specs.declared.fault.XdrFault.TheVariants.{Short, BadBool, BadPad, TooLong, BadArm}
 use Rattle.n41_xdr.specs.Spelling as spelling
 use Rattle.n41_xdr.specs.Spelling.{fill, fill_len}
-use Rattle.n41_xdr.specs.Reading.{◌>>=◌, taken_at, number_at, boolean_at, fixed_at, opaque_at, all_zero}
+use Rattle.n41_xdr.specs.Reading.{taken_at, number_at, boolean_at, fixed_at, opaque_at, all_zero}
 use Rattle.n41_xdr.specs.Format.{Format, word, hyper, flag, fixed, opaque, given, nothing, refused, dependent, choice, only}
 use Rattle.n41_xdr.specs.Lawful.{IsBytes, Takes, IsLawful}
 use Rattle.n41_xdr.proofs.Steps.{IsBytes-drop, IsBytes-take, bind_ok, guard_ok, chosen}
-use Rattle.n41_xdr.proofs.Combined.{IsSame, same_lawful, given_lawful, nothing_lawful, refused_lawful, dependent_lawful, choice_lawful}
+use Rattle.n41_xdr.proofs.Combined.{same_lawful, given_lawful, nothing_lawful, refused_lawful, dependent_lawful, choice_lawful}
 
 -- ---- n bytes
 

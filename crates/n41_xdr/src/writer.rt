@@ -1,6 +1,7 @@
 ghost use Rattle.std.specs.Prelude.{◌≡◌, ◌++◌, ◌<◌, ◌^◌, ◌↔◌, [], List, ℕ, length, IsTrue, OnOk, OnErr};
 ghost use Rattle.n41_xdr.specs.Spelling.{word, hyper, boolean, fixed, opaque, fill};
 
+use crate::fill::fill_len;
 use std::alloc::{AllocError, Global};
 use std::marker::Model;
 
@@ -114,7 +115,7 @@ impl Writer {
         let zeros = [0, 0, 0];
         let filled = self
             .bytes
-            .extend_from_slice(&zeros[..(4 - bytes.len() % 4) % 4]);
+            .extend_from_slice(&zeros[..fill_len(bytes.len())]);
         if filled.is_err() {
             self.bytes.truncate(start);
         }
