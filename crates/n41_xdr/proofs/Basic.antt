@@ -200,10 +200,10 @@ pub fixed_lawful : (n : ℕ) → IsLawful (fixed n)
 fixed_lawful n = record { takes = fixed_takes n; again = fixed_again n }
 
 -- a fault where the test holds
-abbrev unless : {E A : Type 0} → Bool → E → Format E A → Format E A
+abbrev pub unless : {E A : Type 0} → Bool → E → Format E A → Format E A
 unless b e p = record { read = λ bytes. cond b (Err e) (p.read bytes); spell = p.spell; Fits = λ a. (b ≡ false) × p.Fits a }
 
-unless_lawful : {E A : Type 0} (b : Bool) (e : E) (p : Format E A) → IsLawful p → IsLawful (unless b e p)
+pub unless_lawful : {E A : Type 0} (b : Bool) (e : E) (p : Format E A) → IsLawful p → IsLawful (unless b e p)
 unless_lawful b e p h = record {
   takes = λ bytes x fits is.
       let g = guard_ok b e (p.read bytes) x is in

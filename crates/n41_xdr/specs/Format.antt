@@ -141,7 +141,7 @@ abbrev pub chain_next : {E A : Type 0} → Option A → List ℕ → (List ℕ �
 chain_next None bytes others = Ok ([], bytes)
 chain_next (Some x) bytes others = others bytes >>= λ y. Ok (x ∷ y.0, y.1)
 
--- n is more than the elements can be, since each takes a byte at least
+-- n is more than the elements can be, since each takes the four bytes of its bool at least
 abbrev pub chain_at : {E A : Type 0} → (XdrFault → E) → Format E A → ℕ → List ℕ → Result (List A × List ℕ) E
 chain_at f p zero bytes = Err (f (Short 4 0))
 chain_at f p (suc n) bytes = (optional f p).read bytes >>= λ m. chain_next m.0 m.1 (chain_at f p n)

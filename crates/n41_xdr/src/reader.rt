@@ -10,7 +10,7 @@ use std::marker::Model;
 /// Reads the basic types of XDR (RFC 4506) from left to right, with no memory of its own. Its value is the list of bytes that are left.
 ///
 /// A call that answers a fault leaves these bytes as they were.
-#[derive(Drop)]
+#[derive(Debug, Drop)]
 pub struct Reader<'a> {
     rest: &'a [u8],
 }

@@ -8,7 +8,7 @@ use std::marker::Model;
 /// Writes the basic types of XDR (RFC 4506) from left to right. Its value is the list of bytes so far.
 ///
 /// A `put` is refused for want of memory alone, and then leaves these bytes as they were.
-#[derive(Drop)]
+#[derive(Debug, Drop)]
 pub struct Writer {
     bytes: Vec<u8>,
 }
