@@ -1,0 +1,6 @@
+pub mod Names
+pub mod Operations
+pub mod Plans
+pub mod Results
+pub mod Spans
+pub mod Shapes
