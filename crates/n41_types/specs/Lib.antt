@@ -3,4 +3,3 @@ pub mod Operations
 pub mod Plans
 pub mod Results
 pub mod Spans
-pub mod Shapes

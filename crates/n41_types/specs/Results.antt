@@ -43,10 +43,10 @@ operation_of (res.ReclaimComplete _) = op.ReclaimComplete
 operation_of (res.Illegal _) = op.Illegal
 
 abbrev pub ok : Status
-ok = record { field0 = 0 }
+ok = record { 0 = 0 }
 
 abbrev pub denied : Status
-denied = record { field0 = 10010 }
+denied = record { 0 = 10010 }
 
 -- the status of an answer, or of a refusal
 abbrev pub outcome : {A : Type 0} → Result A Status → Status

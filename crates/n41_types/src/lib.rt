@@ -16,7 +16,6 @@ mod replies;
 mod results;
 mod sequence;
 mod sessions;
-mod shapes;
 mod spans;
 mod statuses;
 
@@ -42,7 +41,6 @@ pub use results::{
 };
 pub use sequence::Sequence;
 pub use sessions::{Bound, Channel, Identity, ImplId, Sequenced, SessionMade};
-pub use shapes::Shape;
 pub use spans::{LockKind, Mode, Span};
 pub use statuses::{Loss, Status};
 

@@ -60,33 +60,119 @@ impl Clone for Locker {
 /// What a request is for. Each plan stands for one list of operations.
 #[derive(Debug, Drop, PartialEq, Eq)]
 pub enum Plan {
-    ExchangeId { verifier: Verifier, owner: Bytes },
-    CreateSession { client: u64, seq: u32 },
-    Bind { sid: SessionId },
-    DestroySession { sid: SessionId },
-    DestroyClient { client: u64 },
-    Walk { from: Place, names: Path },
-    Stat { at: Place },
+    ExchangeId {
+        verifier: Verifier,
+        owner: Bytes,
+    },
+    CreateSession {
+        client: u64,
+        seq: u32,
+    },
+    Bind {
+        sid: SessionId,
+    },
+    DestroySession {
+        sid: SessionId,
+    },
+    DestroyClient {
+        client: u64,
+    },
+    Walk {
+        from: Place,
+        names: Path,
+    },
+    Stat {
+        at: Place,
+    },
     LeaseTime,
-    Read { fh: Fh, stateid: Stateid, offset: u64, count: u32 },
-    List { at: Place, cookie: u64, verf: Verifier, max: u32 },
-    TestLock { fh: Fh, kind: LockKind, span: Span, owner: Owner },
-    Test { stateids: Stateids },
+    Read {
+        fh: Fh,
+        stateid: Stateid,
+        offset: u64,
+        count: u32,
+    },
+    List {
+        at: Place,
+        cookie: u64,
+        verf: Verifier,
+        max: u32,
+    },
+    TestLock {
+        fh: Fh,
+        kind: LockKind,
+        span: Span,
+        owner: Owner,
+    },
+    Test {
+        stateids: Stateids,
+    },
     Renew,
-    OpenAt { fh: Fh, mode: Mode, owner: Owner, claim: Claim },
-    Downgrade { fh: Fh, stateid: Stateid, mode: Mode },
-    CloseState { fh: Fh, stateid: Stateid },
-    LockBytes { fh: Fh, kind: LockKind, span: Span, reclaim: bool, locker: Locker },
-    UnlockBytes { fh: Fh, span: Span, stateid: Stateid },
-    ReturnDeleg { fh: Fh, stateid: Stateid },
-    Free { stateid: Stateid },
+    OpenAt {
+        fh: Fh,
+        mode: Mode,
+        owner: Owner,
+        claim: Claim,
+    },
+    Downgrade {
+        fh: Fh,
+        stateid: Stateid,
+        mode: Mode,
+    },
+    CloseState {
+        fh: Fh,
+        stateid: Stateid,
+    },
+    LockBytes {
+        fh: Fh,
+        kind: LockKind,
+        span: Span,
+        reclaim: bool,
+        locker: Locker,
+    },
+    UnlockBytes {
+        fh: Fh,
+        span: Span,
+        stateid: Stateid,
+    },
+    ReturnDeleg {
+        fh: Fh,
+        stateid: Stateid,
+    },
+    Free {
+        stateid: Stateid,
+    },
     Complete,
-    CreateFile { dir: Place, name: Name, guarded: bool, owner: Owner },
-    WriteBytes { fh: Fh, stateid: Stateid, offset: u64, bytes: Bytes },
-    Resize { fh: Fh, stateid: Stateid, size: u64 },
-    MakeDir { dir: Place, name: Name },
-    Remove { dir: Place, name: Name },
-    Rename { from: Place, old: Name, to: Place, new: Name },
+    CreateFile {
+        dir: Place,
+        name: Name,
+        guarded: bool,
+        owner: Owner,
+    },
+    WriteBytes {
+        fh: Fh,
+        stateid: Stateid,
+        offset: u64,
+        bytes: Bytes,
+    },
+    Resize {
+        fh: Fh,
+        stateid: Stateid,
+        size: u64,
+    },
+    MakeDir {
+        dir: Place,
+        name: Name,
+    },
+    Remove {
+        dir: Place,
+        name: Name,
+    },
+    Rename {
+        from: Place,
+        old: Name,
+        to: Place,
+        new: Name,
+    },
 }
 
 impl Clone for Plan {
@@ -94,33 +180,145 @@ impl Clone for Plan {
 
     fn clone(&self) -> Result<Plan, AllocError> {
         Ok(match self {
-            Plan::ExchangeId { verifier, owner } => Plan::ExchangeId { verifier: *verifier, owner: owner.clone()? },
-            Plan::CreateSession { client, seq } => Plan::CreateSession { client: *client, seq: *seq },
+            Plan::ExchangeId { verifier, owner } => Plan::ExchangeId {
+                verifier: *verifier,
+                owner: owner.clone()?,
+            },
+            Plan::CreateSession { client, seq } => Plan::CreateSession {
+                client: *client,
+                seq: *seq,
+            },
             Plan::Bind { sid } => Plan::Bind { sid: *sid },
             Plan::DestroySession { sid } => Plan::DestroySession { sid: *sid },
             Plan::DestroyClient { client } => Plan::DestroyClient { client: *client },
-            Plan::Walk { from, names } => Plan::Walk { from: from.clone()?, names: names.clone()? },
+            Plan::Walk { from, names } => Plan::Walk {
+                from: from.clone()?,
+                names: names.clone()?,
+            },
             Plan::Stat { at } => Plan::Stat { at: at.clone()? },
             Plan::LeaseTime => Plan::LeaseTime,
-            Plan::Read { fh, stateid, offset, count } => Plan::Read { fh: fh.clone()?, stateid: *stateid, offset: *offset, count: *count },
-            Plan::List { at, cookie, verf, max } => Plan::List { at: at.clone()?, cookie: *cookie, verf: *verf, max: *max },
-            Plan::TestLock { fh, kind, span, owner } => Plan::TestLock { fh: fh.clone()?, kind: *kind, span: *span, owner: owner.clone()? },
-            Plan::Test { stateids } => Plan::Test { stateids: stateids.clone()? },
+            Plan::Read {
+                fh,
+                stateid,
+                offset,
+                count,
+            } => Plan::Read {
+                fh: fh.clone()?,
+                stateid: *stateid,
+                offset: *offset,
+                count: *count,
+            },
+            Plan::List {
+                at,
+                cookie,
+                verf,
+                max,
+            } => Plan::List {
+                at: at.clone()?,
+                cookie: *cookie,
+                verf: *verf,
+                max: *max,
+            },
+            Plan::TestLock {
+                fh,
+                kind,
+                span,
+                owner,
+            } => Plan::TestLock {
+                fh: fh.clone()?,
+                kind: *kind,
+                span: *span,
+                owner: owner.clone()?,
+            },
+            Plan::Test { stateids } => Plan::Test {
+                stateids: stateids.clone()?,
+            },
             Plan::Renew => Plan::Renew,
-            Plan::OpenAt { fh, mode, owner, claim } => Plan::OpenAt { fh: fh.clone()?, mode: *mode, owner: owner.clone()?, claim: *claim },
-            Plan::Downgrade { fh, stateid, mode } => Plan::Downgrade { fh: fh.clone()?, stateid: *stateid, mode: *mode },
-            Plan::CloseState { fh, stateid } => Plan::CloseState { fh: fh.clone()?, stateid: *stateid },
-            Plan::LockBytes { fh, kind, span, reclaim, locker } => Plan::LockBytes { fh: fh.clone()?, kind: *kind, span: *span, reclaim: *reclaim, locker: locker.clone()? },
-            Plan::UnlockBytes { fh, span, stateid } => Plan::UnlockBytes { fh: fh.clone()?, span: *span, stateid: *stateid },
-            Plan::ReturnDeleg { fh, stateid } => Plan::ReturnDeleg { fh: fh.clone()?, stateid: *stateid },
+            Plan::OpenAt {
+                fh,
+                mode,
+                owner,
+                claim,
+            } => Plan::OpenAt {
+                fh: fh.clone()?,
+                mode: *mode,
+                owner: owner.clone()?,
+                claim: *claim,
+            },
+            Plan::Downgrade { fh, stateid, mode } => Plan::Downgrade {
+                fh: fh.clone()?,
+                stateid: *stateid,
+                mode: *mode,
+            },
+            Plan::CloseState { fh, stateid } => Plan::CloseState {
+                fh: fh.clone()?,
+                stateid: *stateid,
+            },
+            Plan::LockBytes {
+                fh,
+                kind,
+                span,
+                reclaim,
+                locker,
+            } => Plan::LockBytes {
+                fh: fh.clone()?,
+                kind: *kind,
+                span: *span,
+                reclaim: *reclaim,
+                locker: locker.clone()?,
+            },
+            Plan::UnlockBytes { fh, span, stateid } => Plan::UnlockBytes {
+                fh: fh.clone()?,
+                span: *span,
+                stateid: *stateid,
+            },
+            Plan::ReturnDeleg { fh, stateid } => Plan::ReturnDeleg {
+                fh: fh.clone()?,
+                stateid: *stateid,
+            },
             Plan::Free { stateid } => Plan::Free { stateid: *stateid },
             Plan::Complete => Plan::Complete,
-            Plan::CreateFile { dir, name, guarded, owner } => Plan::CreateFile { dir: dir.clone()?, name: name.clone()?, guarded: *guarded, owner: owner.clone()? },
-            Plan::WriteBytes { fh, stateid, offset, bytes } => Plan::WriteBytes { fh: fh.clone()?, stateid: *stateid, offset: *offset, bytes: bytes.clone()? },
-            Plan::Resize { fh, stateid, size } => Plan::Resize { fh: fh.clone()?, stateid: *stateid, size: *size },
-            Plan::MakeDir { dir, name } => Plan::MakeDir { dir: dir.clone()?, name: name.clone()? },
-            Plan::Remove { dir, name } => Plan::Remove { dir: dir.clone()?, name: name.clone()? },
-            Plan::Rename { from, old, to, new } => Plan::Rename { from: from.clone()?, old: old.clone()?, to: to.clone()?, new: new.clone()? },
+            Plan::CreateFile {
+                dir,
+                name,
+                guarded,
+                owner,
+            } => Plan::CreateFile {
+                dir: dir.clone()?,
+                name: name.clone()?,
+                guarded: *guarded,
+                owner: owner.clone()?,
+            },
+            Plan::WriteBytes {
+                fh,
+                stateid,
+                offset,
+                bytes,
+            } => Plan::WriteBytes {
+                fh: fh.clone()?,
+                stateid: *stateid,
+                offset: *offset,
+                bytes: bytes.clone()?,
+            },
+            Plan::Resize { fh, stateid, size } => Plan::Resize {
+                fh: fh.clone()?,
+                stateid: *stateid,
+                size: *size,
+            },
+            Plan::MakeDir { dir, name } => Plan::MakeDir {
+                dir: dir.clone()?,
+                name: name.clone()?,
+            },
+            Plan::Remove { dir, name } => Plan::Remove {
+                dir: dir.clone()?,
+                name: name.clone()?,
+            },
+            Plan::Rename { from, old, to, new } => Plan::Rename {
+                from: from.clone()?,
+                old: old.clone()?,
+                to: to.clone()?,
+                new: new.clone()?,
+            },
         })
     }
 }

@@ -224,7 +224,10 @@ impl Clone for Res {
             Res::Remove(outcome) => Res::Remove(*outcome),
             Res::Rename(outcome) => Res::Rename(*outcome),
             Res::SaveFh(status) => Res::SaveFh(*status),
-            Res::SetAttr { status, set } => Res::SetAttr { status: *status, set: set.clone()? },
+            Res::SetAttr { status, set } => Res::SetAttr {
+                status: *status,
+                set: set.clone()?,
+            },
             Res::Write(outcome) => Res::Write(*outcome),
             Res::Bind(outcome) => Res::Bind(*outcome),
             Res::ExchangeId(outcome) => Res::ExchangeId(outcome.clone()?),
@@ -241,20 +244,20 @@ impl Clone for Res {
 }
 
 /// The status of an answer, or of a refusal.
-fn outcome_of<T>(outcome: &Result<T, Status>) -> Status
-    ensures { result ≡ outcome outcome.now }
+fn outcome_of<T>(answer: &Result<T, Status>) -> Status
+    ensures { result ≡ outcome answer.now }
 {
-    match outcome {
+    match answer {
         Ok(_) => Status::OK,
         Err(status) => *status,
     }
 }
 
 /// The status of an answer to a lock.
-fn lock_outcome_of<T>(outcome: &Result<T, LockRefusal>) -> Status
-    ensures { result ≡ lock_outcome outcome.now }
+fn lock_outcome_of<T>(answer: &Result<T, LockRefusal>) -> Status
+    ensures { result ≡ lock_outcome answer.now }
 {
-    match outcome {
+    match answer {
         Ok(_) => Status::OK,
         Err(LockRefusal::Denied(_)) => Status::DENIED,
         Err(LockRefusal::Other(status)) => *status,
