@@ -1,5 +1,4 @@
 pub mod Names
 pub mod Operations
 pub mod Plans
-pub mod Results
 pub mod Spans

@@ -1,5 +1,5 @@
--- The operations, and the result of each.
-use Rattle.std.specs.Prelude.{ℕ, Result, Ok, Err}
+-- The operations of a compound.
+use Rattle.std.specs.Prelude.{ℕ}
 use Rattle.n41_types.specs.declared.operations.Operation.{Operation}
 use Rattle.n41_types.specs.declared.operations.Operation.TheVariants as op
 

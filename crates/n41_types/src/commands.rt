@@ -8,7 +8,7 @@ use bytes::Bytes;
 use std::alloc::AllocError;
 
 /// What a caller asks for. A label names the handle that its caller opened last with it.
-#[derive(Debug, Drop, PartialEq, Eq)]
+#[derive(Drop, PartialEq, Eq)]
 pub enum Command {
     Create {
         label: Label,
@@ -152,7 +152,7 @@ impl Clone for Command {
 }
 
 /// What a command that was done gives.
-#[derive(Debug, Drop, PartialEq, Eq)]
+#[derive(Drop, PartialEq, Eq)]
 pub enum Value {
     Opened,
     /// The bytes read, and whether they are the last of the file.
@@ -225,7 +225,7 @@ impl Clone for Value {
 }
 
 /// How a command ended.
-#[derive(Debug, Drop, PartialEq, Eq)]
+#[derive(Drop, PartialEq, Eq)]
 pub enum Answer {
     Done(Value),
     /// The server refused it with this status.

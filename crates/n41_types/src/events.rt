@@ -5,7 +5,7 @@ use crate::sequence::Sequence;
 use std::alloc::AllocError;
 
 /// What happens beside the script, by a plan line.
-#[derive(Debug, Drop, PartialEq, Eq)]
+#[derive(Drop, PartialEq, Eq)]
 pub enum PlanEvent {
     Break,
     Restart,
@@ -36,7 +36,7 @@ impl Clone for PlanEvent {
 }
 
 /// A line of a script that says: at the `nth` operation with the number `op` that is answered OK, this happens.
-#[derive(Debug, Drop, PartialEq, Eq)]
+#[derive(Drop, PartialEq, Eq)]
 pub struct PlanLine {
     pub nth: u64,
     pub op: u32,

@@ -9,7 +9,7 @@ use bytes::Bytes;
 use std::alloc::AllocError;
 
 /// Where a plan begins: at the root, or at a filehandle.
-#[derive(Debug, Drop, PartialEq, Eq)]
+#[derive(Drop, PartialEq, Eq)]
 pub enum Place {
     Root,
     At(Fh),
@@ -37,7 +37,7 @@ pub enum Claim {
 }
 
 /// Who locks (RFC 8881, locker4): a lock owner that has no lock on the file yet, or the holder of a lock stateid.
-#[derive(Debug, Drop, PartialEq, Eq)]
+#[derive(Drop, PartialEq, Eq)]
 pub enum Locker {
     New { opener: Stateid, owner: Owner },
     Old(Stateid),
@@ -58,7 +58,7 @@ impl Clone for Locker {
 }
 
 /// What a request is for. Each plan stands for one list of operations.
-#[derive(Debug, Drop, PartialEq, Eq)]
+#[derive(Drop, PartialEq, Eq)]
 pub enum Plan {
     ExchangeId {
         verifier: Verifier,
@@ -391,7 +391,7 @@ pub struct SlotUse {
 }
 
 /// A request. A plan without a slot is alone in its compound.
-#[derive(Debug, Drop, PartialEq, Eq)]
+#[derive(Drop, PartialEq, Eq)]
 pub struct Request {
     pub xid: u32,
     pub uid: u32,

@@ -2,11 +2,11 @@ ghost use Rattle.std.specs.Prelude.{◌≡◌};
 
 use crate::callbacks::CbCall;
 use crate::replies::Reply;
-use bytes::Bytes;
+use n41_types::Bytes;
 
 /// What a message on its way out is made of: its connection, its place among the messages that go out there, and its body,
 /// without a record mark.
-#[derive(Debug, Drop, PartialEq, Eq)]
+#[derive(Drop)]
 pub struct Parts {
     pub conn: u64,
     pub place: u64,
@@ -15,9 +15,9 @@ pub struct Parts {
 
 /// A message that is to be sent. A type of these need not be `Drop`: one is spent, and then sent once.
 pub trait Parcel: Sized {
-    /// What it is made of.
-    ghost use Rattle.n41_types.specs.declared.messages.Parts.{Parts};
+    ghost use Rattle.n41_results.specs.declared.messages.Parts.{Parts};
 
+    /// What it is made of.
     ghost parts: { Self → Parts };
 
     fn spend(self) -> Parts
@@ -25,7 +25,7 @@ pub trait Parcel: Sized {
 }
 
 /// A message that came in: its connection, its place among those that came there, and what it says.
-#[derive(Debug, Drop, PartialEq, Eq)]
+#[derive(Drop)]
 pub enum Heard {
     Reply { conn: u64, place: u64, reply: Reply },
     Call { conn: u64, place: u64, call: CbCall },
@@ -33,9 +33,9 @@ pub enum Heard {
 
 /// A message that came in and is to be taken. A type of these need not be `Drop`: one is spent, and then taken once.
 pub trait Incoming: Sized {
-    /// What was heard.
-    ghost use Rattle.n41_types.specs.declared.messages.Heard.{Heard};
+    ghost use Rattle.n41_results.specs.declared.messages.Heard.{Heard};
 
+    /// What was heard.
     ghost heard: { Self → Heard };
 
     fn spend(self) -> Heard

@@ -1,15 +1,9 @@
 ghost use Rattle.std.specs.Prelude.{◌≡◌};
-ghost use Rattle.n41_types.specs.Results.{operation_of, status_of, outcome, lock_outcome};
+ghost use Rattle.n41_results.specs.Results.{operation_of, status_of, outcome, lock_outcome};
 
-use crate::attributes::{Attrs, Bitmap};
-use crate::identities::{Fh, Stateid, Verifier};
 use crate::openings::{ChangeInfo, Opened};
-use crate::operations::Operation;
-use crate::owners::Owner;
-use crate::sequence::Sequence;
 use crate::sessions::{Bound, Identity, Sequenced, SessionMade};
-use crate::statuses::Status;
-use bytes::Bytes;
+use n41_types::{Attrs, Bitmap, Bytes, Fh, Operation, Owner, Sequence, Stateid, Status, Verifier};
 use std::alloc::AllocError;
 
 /// The kinds of a lock on the wire (RFC 8881, nfs_lock_type4). The last two are those of a caller that waits.
@@ -22,7 +16,7 @@ pub enum LockType {
 }
 
 /// The lock that stands in the way (RFC 8881, LOCK4denied). A length of all ones is to the end.
-#[derive(Debug, Drop, PartialEq, Eq)]
+#[derive(Drop, PartialEq, Eq)]
 pub struct LockDenied {
     pub offset: u64,
     pub length: u64,
@@ -46,7 +40,7 @@ impl Clone for LockDenied {
 }
 
 /// Why bytes are not locked.
-#[derive(Debug, Drop, PartialEq, Eq)]
+#[derive(Drop, PartialEq, Eq)]
 pub enum LockRefusal {
     /// DENIED, with the lock that stands in the way.
     Denied(LockDenied),
@@ -66,7 +60,7 @@ impl Clone for LockRefusal {
 }
 
 /// What CREATE answers (RFC 8881, CREATE4resok).
-#[derive(Debug, Drop, PartialEq, Eq)]
+#[derive(Drop, PartialEq, Eq)]
 pub struct Created {
     pub change: ChangeInfo,
     pub set: Bitmap,
@@ -84,7 +78,7 @@ impl Clone for Created {
 }
 
 /// What READ answers (RFC 8881, READ4resok).
-#[derive(Debug, Drop, PartialEq, Eq)]
+#[derive(Drop, PartialEq, Eq)]
 pub struct Content {
     pub eof: bool,
     pub bytes: Bytes,
@@ -102,7 +96,7 @@ impl Clone for Content {
 }
 
 /// An entry of a directory (RFC 8881, entry4). Its name is any bytes: a server may have other names than this client makes.
-#[derive(Debug, Drop, PartialEq, Eq)]
+#[derive(Drop, PartialEq, Eq)]
 pub struct Entry {
     pub cookie: u64,
     pub name: Bytes,
@@ -125,7 +119,7 @@ impl Clone for Entry {
 pub type Entries = Sequence<Entry>;
 
 /// What READDIR answers (RFC 8881, READDIR4resok).
-#[derive(Debug, Drop, PartialEq, Eq)]
+#[derive(Drop, PartialEq, Eq)]
 pub struct Listing {
     pub verifier: Verifier,
     pub entries: Entries,
@@ -164,7 +158,7 @@ pub type Statuses = Sequence<Status>;
 
 /// The result of an operation: what follows OK, or the status (RFC 8881, nfs_resop4). An `Err` with the status OK is the
 /// result of no operation.
-#[derive(Debug, Drop, PartialEq, Eq)]
+#[derive(Drop, PartialEq, Eq)]
 pub enum Res {
     Close(Result<Stateid, Status>),
     Commit(Result<Verifier, Status>),

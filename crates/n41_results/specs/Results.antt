@@ -3,10 +3,10 @@ use Rattle.std.specs.Prelude.{Result, Ok, Err}
 use Rattle.n41_types.specs.declared.operations.Operation.{Operation}
 use Rattle.n41_types.specs.declared.operations.Operation.TheVariants as op
 use Rattle.n41_types.specs.declared.statuses.Status.{Status}
-use Rattle.n41_types.specs.declared.results.LockRefusal.{LockRefusal}
-use Rattle.n41_types.specs.declared.results.LockRefusal.TheVariants.{Denied, Other}
-use Rattle.n41_types.specs.declared.results.Res.{Res}
-use Rattle.n41_types.specs.declared.results.Res.TheVariants as res
+use Rattle.n41_results.specs.declared.results.LockRefusal.{LockRefusal}
+use Rattle.n41_results.specs.declared.results.LockRefusal.TheVariants.{Denied, Other}
+use Rattle.n41_results.specs.declared.results.Res.{Res}
+use Rattle.n41_results.specs.declared.results.Res.TheVariants as res
 
 -- the operation that a result answers
 abbrev pub operation_of : Res → Operation

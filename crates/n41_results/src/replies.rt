@@ -1,15 +1,14 @@
 ghost use Rattle.std.specs.Prelude.{◌≡◌};
 
 use crate::results::Res;
-use crate::sequence::Sequence;
-use crate::statuses::Status;
+use n41_types::{Sequence, Status};
 use std::alloc::AllocError;
 
 /// A list of results.
 pub type Results = Sequence<Res>;
 
 /// What a reply says.
-#[derive(Debug, Drop, PartialEq, Eq)]
+#[derive(Drop, PartialEq, Eq)]
 pub enum ReplyBody {
     /// The call was denied: 0 for RPC_MISMATCH, 1 for AUTH_ERROR (RFC 5531, reject_stat).
     Denied(u32),
@@ -35,7 +34,7 @@ impl Clone for ReplyBody {
 }
 
 /// A reply, with the number of the request that it answers.
-#[derive(Debug, Drop, PartialEq, Eq)]
+#[derive(Drop, PartialEq, Eq)]
 pub struct Reply {
     pub xid: u32,
     pub body: ReplyBody,

@@ -1,10 +1,7 @@
 ghost use Rattle.std.specs.Prelude.{◌≡◌};
 
-use crate::attributes::Bitmap;
-use crate::identities::{Fh, SessionId, Stateid};
-use crate::sequence::Sequence;
 use crate::sessions::Sequenced;
-use crate::statuses::Status;
+use n41_types::{Bitmap, Fh, Sequence, SessionId, Stateid, Status};
 use std::alloc::AllocError;
 
 /// One call that a callback refers to, by its turn and slot (RFC 8881, referring_call4).
@@ -18,7 +15,7 @@ pub struct ReferringCall {
 pub type ReferringCalls = Sequence<ReferringCall>;
 
 /// The calls of one session that a callback refers to (RFC 8881, referring_call_list4).
-#[derive(Debug, Drop, PartialEq, Eq)]
+#[derive(Drop, PartialEq, Eq)]
 pub struct ReferringList {
     pub sid: SessionId,
     pub calls: ReferringCalls,
@@ -39,7 +36,7 @@ impl Clone for ReferringList {
 pub type ReferringLists = Sequence<ReferringList>;
 
 /// What CB_RECALL asks: that a delegation be returned (RFC 8881, CB_RECALL4args).
-#[derive(Debug, Drop, PartialEq, Eq)]
+#[derive(Drop, PartialEq, Eq)]
 pub struct CbRecall {
     pub stateid: Stateid,
     pub truncate: bool,
@@ -59,7 +56,7 @@ impl Clone for CbRecall {
 }
 
 /// What CB_RECALL_ANY asks: that of the kinds in the mask only so many be kept (RFC 8881, CB_RECALL_ANY4args).
-#[derive(Debug, Drop, PartialEq, Eq)]
+#[derive(Drop, PartialEq, Eq)]
 pub struct CbRecallAny {
     pub keep: u32,
     pub mask: Bitmap,
@@ -77,7 +74,7 @@ impl Clone for CbRecallAny {
 }
 
 /// What CB_SEQUENCE says: the slot of the callback and its turn there (RFC 8881, CB_SEQUENCE4args).
-#[derive(Debug, Drop, PartialEq, Eq)]
+#[derive(Drop, PartialEq, Eq)]
 pub struct CbSequence {
     pub sid: SessionId,
     pub turn: u32,
@@ -103,7 +100,7 @@ impl Clone for CbSequence {
 }
 
 /// An operation of a callback that this client serves.
-#[derive(Debug, Drop, PartialEq, Eq)]
+#[derive(Drop, PartialEq, Eq)]
 pub enum CbArg {
     Recall(CbRecall),
     RecallAny(CbRecallAny),
@@ -142,7 +139,7 @@ pub enum Tail {
 }
 
 /// The operations of a callback.
-#[derive(Debug, Drop, PartialEq, Eq)]
+#[derive(Drop, PartialEq, Eq)]
 pub struct CbOps {
     pub list: CbArgs,
     pub tail: Tail,
@@ -160,7 +157,7 @@ impl Clone for CbOps {
 }
 
 /// A callback (RFC 5531, call_body; RFC 8881, CB_COMPOUND4args).
-#[derive(Debug, Drop, PartialEq, Eq)]
+#[derive(Drop, PartialEq, Eq)]
 pub struct CbCall {
     pub xid: u32,
     pub prog: u32,
@@ -216,7 +213,7 @@ pub enum CbRes {
 pub type CbResults = Sequence<CbRes>;
 
 /// What the reply to a callback says.
-#[derive(Debug, Drop, PartialEq, Eq)]
+#[derive(Drop, PartialEq, Eq)]
 pub enum CbBody {
     /// PROG_MISMATCH: another version is served.
     Mismatch,
@@ -251,7 +248,7 @@ impl Clone for CbBody {
 }
 
 /// The reply to a callback, with the number of the call that it answers.
-#[derive(Debug, Drop, PartialEq, Eq)]
+#[derive(Drop, PartialEq, Eq)]
 pub struct CbReply {
     pub xid: u32,
     pub body: CbBody,

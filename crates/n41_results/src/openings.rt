@@ -1,8 +1,6 @@
 ghost use Rattle.std.specs.Prelude.{◌≡◌};
 
-use crate::attributes::Bitmap;
-use crate::identities::Stateid;
-use bytes::Bytes;
+use n41_types::{Bitmap, Bytes, Stateid};
 use std::alloc::AllocError;
 
 /// How an operation changed a directory (RFC 8881, change_info4).
@@ -14,7 +12,7 @@ pub struct ChangeInfo {
 }
 
 /// An entry of an access control list (RFC 8881, nfsace4).
-#[derive(Debug, Drop, PartialEq, Eq)]
+#[derive(Drop, PartialEq, Eq)]
 pub struct Ace {
     pub kind: u32,
     pub flags: u32,
@@ -55,7 +53,7 @@ pub enum Why {
 }
 
 /// The delegation that an OPEN answers (RFC 8881, open_delegation4). With `recall` it is recalled at once.
-#[derive(Debug, Drop, PartialEq, Eq)]
+#[derive(Drop, PartialEq, Eq)]
 pub enum Delegation {
     Nothing,
     Read {
@@ -104,7 +102,7 @@ impl Clone for Delegation {
 }
 
 /// What OPEN answers (RFC 8881, OPEN4resok).
-#[derive(Debug, Drop, PartialEq, Eq)]
+#[derive(Drop, PartialEq, Eq)]
 pub struct Opened {
     pub stateid: Stateid,
     pub change: ChangeInfo,

@@ -1,7 +1,6 @@
 ghost use Rattle.std.specs.Prelude.{◌≡◌};
 
-use crate::identities::SessionId;
-use bytes::Bytes;
+use n41_types::{Bytes, SessionId};
 use std::alloc::AllocError;
 
 /// The sizes of one direction of a session (RFC 8881, channel_attrs4). Sizes are in bytes.
@@ -18,7 +17,7 @@ pub struct Channel {
 }
 
 /// Which program a side runs (RFC 8881, nfs_impl_id4).
-#[derive(Debug, Drop, PartialEq, Eq)]
+#[derive(Drop, PartialEq, Eq)]
 pub struct ImplId {
     pub domain: Bytes,
     pub name: Bytes,
@@ -41,7 +40,7 @@ impl Clone for ImplId {
 }
 
 /// What EXCHANGE_ID answers (RFC 8881, EXCHANGE_ID4resok).
-#[derive(Debug, Drop, PartialEq, Eq)]
+#[derive(Drop, PartialEq, Eq)]
 pub struct Identity {
     pub client: u64,
     pub sequence: u32,
