@@ -4,7 +4,7 @@ use Rattle.n41_types.specs.declared.commands.Answer.{Answer}
 use Rattle.n41_types.specs.declared.commands.Answer.TheVariants as answer
 use Rattle.n41_types.specs.declared.plans.Class.TheVariants.{Changing}
 use Rattle.n41_types.specs.declared.plans.Request.{Request}
-use Rattle.n41_types.specs.declared.replies.Reply.{Reply}
+use Rattle.n41_results.specs.declared.replies.Reply.{Reply}
 use Rattle.n41_types.specs.Plans.{class_of}
 use Rattle.n41_journal.specs.declared.events.Event.{Event}
 use Rattle.n41_journal.specs.declared.events.Event.TheVariants.{Took}

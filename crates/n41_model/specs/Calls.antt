@@ -1,21 +1,21 @@
 -- What a journal says of commands, and whose each request is.
-use Rattle.std.specs.Prelude.{ℕ, zero, suc, ◌+◌, ◌==◌, Bool, true, false, ◌&&◌, ◌||◌, not, List, [], ◌∷◌, length, Option, Some, None, if◌then◌else◌, nat_le, nat_lt, is_none, is_some}
+use Rattle.std.specs.Prelude.{ℕ, zero, suc, ◌+◌, ◌==◌, Bool, true, false, ◌&&◌, ◌||◌, not, List, [], ◌∷◌, length, Option, Some, None, Result, Ok, Err, if◌then◌else◌, nat_le, nat_lt, is_none, is_some}
 use Rattle.n41_types.specs.declared.attributes.Attrs.{Attrs}
 use Rattle.n41_types.specs.declared.commands.Answer.{Answer}
-use Rattle.n41_types.specs.declared.commands.Answer.TheVariants as answer
+use Rattle.n41_types.specs.declared.commands.Answer.TheVariants as says
 use Rattle.n41_types.specs.declared.commands.Command.{Command}
-use Rattle.n41_types.specs.declared.commands.Command.TheVariants as command
+use Rattle.n41_types.specs.declared.commands.Command.TheVariants as asks
 use Rattle.n41_types.specs.declared.commands.Value.{Value}
 use Rattle.n41_types.specs.declared.commands.Value.TheVariants as value
 use Rattle.n41_types.specs.declared.plans.Place.TheVariants.{Root}
 use Rattle.n41_types.specs.declared.plans.Plan.{Plan}
 use Rattle.n41_types.specs.declared.plans.Plan.TheVariants as plan
 use Rattle.n41_types.specs.declared.plans.Request.{Request}
-use Rattle.n41_types.specs.declared.replies.Reply.{Reply}
-use Rattle.n41_types.specs.declared.replies.ReplyBody.{ReplyBody}
-use Rattle.n41_types.specs.declared.replies.ReplyBody.TheVariants.{Results}
-use Rattle.n41_types.specs.declared.results.Res.{Res}
-use Rattle.n41_types.specs.declared.results.Res.TheVariants as res
+use Rattle.n41_results.specs.declared.replies.Reply.{Reply}
+use Rattle.n41_results.specs.declared.replies.ReplyBody.{ReplyBody}
+use Rattle.n41_results.specs.declared.replies.ReplyBody.TheVariants.{Results}
+use Rattle.n41_results.specs.declared.results.Res.{Res}
+use Rattle.n41_results.specs.declared.results.Res.TheVariants as res
 use Rattle.n41_types.specs.declared.statuses.Status.{Status}
 use Rattle.n41_types.specs.contracts.plans.PlanPartialEq.TheImpl as plans
 use Rattle.n41_journal.specs.declared.events.Event.{Event}
@@ -49,7 +49,7 @@ began_at (e ∷ js) c = began_at js c
 
 -- The next plan of a command. A stat of the root needs no walk; the other commands are not built yet.
 abbrev pub next_plan : Option Command → Option Plan
-next_plan (Some (command.Stat [])) = Some (plan.Stat Root)
+next_plan (Some (asks.Stat [])) = Some (plan.Stat Root)
 next_plan k = None
 
 -- whether a request with this plan is the command's next
@@ -78,7 +78,7 @@ value_of p y = body_value p y.body
 
 abbrev pub done_with : Option Value → Option Answer
 done_with None = None
-done_with (Some x) = Some (answer.Done x)
+done_with (Some x) = Some (says.Done x)
 
 -- DELAY and GRACE lead to a new attempt, 64 times
 abbrev pub is_again : Status → ℕ → Bool
@@ -87,8 +87,8 @@ is_again s n = (is_delay s || is_grace s) && nat_lt n 64
 -- the answer that a reply gives to the command of whose step it ended this attempt; None where it gives none yet
 abbrev pub answer_in : Plan → Option Verdict → ℕ → Reply → Option Answer
 answer_in p (Some (v.Ran s)) n y =
-    if is_ok s then done_with (value_of p y) else if is_again s n then None else Some (answer.Refused s)
-answer_in p (Some (v.TooBig s)) n y = Some (answer.Refused s)
+    if is_ok s then done_with (value_of p y) else if is_again s n then None else Some (says.Refused s)
+answer_in p (Some (v.TooBig s)) n y = Some (says.Refused s)
 answer_in p w n y = None
 
 abbrev pub is_put_off_by : Option Verdict → ℕ → Bool

@@ -3,7 +3,7 @@ use Rattle.std.specs.Prelude.{◌≡◌, ℕ, zero, suc, ◌+◌, ◌==◌, Bool
 use Rattle.n41_types.specs.declared.plans.Plan.{Plan}
 use Rattle.n41_types.specs.declared.plans.Plan.TheVariants as plan
 use Rattle.n41_types.specs.declared.plans.Request.{Request}
-use Rattle.n41_types.specs.declared.sessions.SessionMade.{SessionMade}
+use Rattle.n41_results.specs.declared.sessions.SessionMade.{SessionMade}
 use Rattle.n41_types.specs.Plans.{class_of, is_cached}
 use Rattle.n41_journal.specs.declared.events.Event.{Event}
 use Rattle.n41_model.specs.declared.words.Item.{Item}
@@ -130,26 +130,38 @@ with_plan (Some p) f = f p
 abbrev pub bare_due : Setup → List Event → Plan → Option Request
 bare_due u js p = Some (bare_request u js p)
 
+abbrev pub may_retry : Setup → List Event → ℕ → Bool
+may_retry u js n = not (finishing u.callers js) && bound js && nat_le (n + 1) (slots js) && goes_again (moment js) (sent js n)
+
+-- a new request without a slot goes only where none is out; a session is made only where no reply is awaited on a slot
+abbrev pub may_step : Setup → List Event → Bool
+may_step u js = not (finishing u.callers js) && passed (put_off js (phase js)) (moment js) && not (is_session (phase js) && any_waits js) && is_empty (bares js)
+
+abbrev pub may_own : Setup → List Event → Bool
+may_own u js = not (finishing u.callers js) && passed (put_off js (phase js)) (moment js) && not (any_own u.callers js)
+
+abbrev pub may_begin : Setup → List Event → ℕ → Bool
+may_begin u js c = not (finishing u.callers js) && is_running (phase js) && nat_le (c + 1) u.callers && is_ready u.callers js c
+
+abbrev pub may_destroy : Setup → List Event → Bool
+may_destroy u js = finishing u.callers js && is_empty (bares js)
+
 abbrev pub item_due : Setup → List Event → Item → Option Request
 -- the request without a slot that is out goes on each connection on which it was not put, bound or not
 item_due u js item.Again = only_if (not (bare_waits js)) (bare js)
-item_due u js (item.Retry n) = only_if (not (finishing u.callers js) && bound js && nat_le (n + 1) (slots js) && goes_again (moment js) (sent js n)) (out js n)
--- a new one goes only where none is out; a session is made only where no reply is awaited on a slot
-item_due u js item.Step =
-    only_if (not (finishing u.callers js) && is_empty (bares js) && passed (put_off js (phase js)) (moment js) && not (is_session (phase js) && any_waits js))
-        (with_plan (step_plan u js) (bare_due u js))
-item_due u js item.Own =
-    only_if (not (finishing u.callers js) && passed (put_off js (phase js)) (moment js) && not (any_own u.callers js))
-        (with_plan (own_plan js) (on_free_slot u js))
-item_due u js (item.Fresh c) =
-    only_if (not (finishing u.callers js) && is_running (phase js) && nat_le (c + 1) u.callers && is_ready u.callers js c)
-        (with_plan (next_plan (command js c)) (on_free_slot u js))
-item_due u js item.Destroy =
-    only_if (finishing u.callers js && is_empty (bares js)) (with_plan (destroy_plan js) (bare_due u js))
+item_due u js (item.Retry n) = only_if (may_retry u js n) (out js n)
+item_due u js item.Step = only_if (may_step u js) (with_plan (step_plan u js) (bare_due u js))
+item_due u js item.Own = only_if (may_own u js) (with_plan (own_plan js) (on_free_slot u js))
+item_due u js (item.Fresh c) = only_if (may_begin u js c) (with_plan (next_plan (command js c)) (on_free_slot u js))
+item_due u js item.Destroy = only_if (may_destroy u js) (with_plan (destroy_plan js) (bare_due u js))
+
+-- the standing connection carries requests
+abbrev pub is_open : List Event → Bool
+is_open js = is_some (standing js) && not (is_dead (phase js))
 
 -- The request of this kind that is due on the standing connection: none in phase Dead, and none where no connection stands.
 abbrev pub due : Setup → List Event → Item → Option Request
-due u js i = only_if (is_some (standing js) && not (is_dead (phase js))) (item_due u js i)
+due u js i = only_if (is_open js) (item_due u js i)
 
 -- nothing is due
 abbrev pub NothingDue : Setup → List Event → Type 0

@@ -3,8 +3,8 @@ use Rattle.std.specs.Prelude.{◌≡◌, ◌≢◌, ◌⊎◌, ℕ, suc, ◌+◌
 use Rattle.n41_types.specs.declared.commands.Answer.{Answer}
 use Rattle.n41_types.specs.declared.commands.Command.{Command}
 use Rattle.n41_types.specs.declared.plans.Request.{Request}
-use Rattle.n41_types.specs.declared.replies.Reply.{Reply}
-use Rattle.n41_types.specs.Shapes.{shape_of}
+use Rattle.n41_results.specs.declared.replies.Reply.{Reply}
+use Rattle.n41_results.specs.Shapes.{shape_of}
 use Rattle.n41_journal.specs.declared.events.Cause.{Cause}
 use Rattle.n41_journal.specs.declared.events.Cause.TheVariants as cause
 use Rattle.n41_journal.specs.declared.events.Event.{Event}

@@ -8,17 +8,17 @@ use Rattle.n41_types.specs.declared.plans.Plan.{Plan}
 use Rattle.n41_types.specs.declared.plans.Plan.TheVariants as plan
 use Rattle.n41_types.specs.declared.plans.Request.{Request}
 use Rattle.n41_types.specs.declared.plans.SlotUse.{SlotUse}
-use Rattle.n41_types.specs.declared.replies.Reply.{Reply}
-use Rattle.n41_types.specs.declared.replies.ReplyBody.{ReplyBody}
-use Rattle.n41_types.specs.declared.replies.ReplyBody.TheVariants.{Denied, Rejected, Results}
-use Rattle.n41_types.specs.declared.results.Res.{Res}
-use Rattle.n41_types.specs.declared.results.Res.TheVariants as res
-use Rattle.n41_types.specs.declared.sessions.Channel.{Channel}
-use Rattle.n41_types.specs.declared.sessions.Sequenced.{Sequenced}
-use Rattle.n41_types.specs.declared.sessions.SessionMade.{SessionMade}
+use Rattle.n41_results.specs.declared.replies.Reply.{Reply}
+use Rattle.n41_results.specs.declared.replies.ReplyBody.{ReplyBody}
+use Rattle.n41_results.specs.declared.replies.ReplyBody.TheVariants.{Denied, Rejected, Results}
+use Rattle.n41_results.specs.declared.results.Res.{Res}
+use Rattle.n41_results.specs.declared.results.Res.TheVariants as res
+use Rattle.n41_results.specs.declared.sessions.Channel.{Channel}
+use Rattle.n41_results.specs.declared.sessions.Sequenced.{Sequenced}
+use Rattle.n41_results.specs.declared.sessions.SessionMade.{SessionMade}
 use Rattle.n41_types.specs.declared.statuses.Status.{Status}
 use Rattle.n41_types.specs.Plans.{class_of}
-use Rattle.n41_types.specs.Results.{status_of}
+use Rattle.n41_results.specs.Results.{status_of}
 use Rattle.n41_types.specs.contracts.identities.SessionIdPartialEq.TheImpl as session_id
 use Rattle.n41_model.specs.declared.words.Verdict.{Verdict}
 use Rattle.n41_model.specs.declared.words.Verdict.TheVariants as v

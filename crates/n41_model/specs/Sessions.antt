@@ -1,14 +1,14 @@
 -- What a journal says of client ids, sessions and phases.
-use Rattle.std.specs.Prelude.{ℕ, zero, suc, ◌+◌, ◌-◌, ◌*◌, ◌==◌, ◌%◌, ◌^◌, min, max, Bool, true, false, ◌&&◌, ◌||◌, not, List, [], ◌∷◌, ◌++◌, length, Option, Some, None, if◌then◌else◌, nat_le, nat_lt, is_none}
+use Rattle.std.specs.Prelude.{ℕ, zero, suc, ◌+◌, ◌-◌, ◌*◌, ◌==◌, ◌%◌, ◌^◌, min, max, Bool, true, false, ◌&&◌, ◌||◌, not, List, [], ◌∷◌, ◌++◌, length, Option, Some, None, Result, Ok, Err, if◌then◌else◌, nat_le, nat_lt, is_none}
 use Rattle.n41_types.specs.declared.plans.Plan.{Plan}
 use Rattle.n41_types.specs.declared.plans.Plan.TheVariants as plan
 use Rattle.n41_types.specs.declared.plans.Request.{Request}
-use Rattle.n41_types.specs.declared.replies.Reply.{Reply}
-use Rattle.n41_types.specs.declared.replies.ReplyBody.{ReplyBody}
-use Rattle.n41_types.specs.declared.replies.ReplyBody.TheVariants.{Results}
-use Rattle.n41_types.specs.declared.results.Res.{Res}
-use Rattle.n41_types.specs.declared.results.Res.TheVariants as res
-use Rattle.n41_types.specs.declared.sessions.SessionMade.{SessionMade}
+use Rattle.n41_results.specs.declared.replies.Reply.{Reply}
+use Rattle.n41_results.specs.declared.replies.ReplyBody.{ReplyBody}
+use Rattle.n41_results.specs.declared.replies.ReplyBody.TheVariants.{Results}
+use Rattle.n41_results.specs.declared.results.Res.{Res}
+use Rattle.n41_results.specs.declared.results.Res.TheVariants as res
+use Rattle.n41_results.specs.declared.sessions.SessionMade.{SessionMade}
 use Rattle.n41_types.specs.declared.statuses.Status.{Status}
 use Rattle.n41_journal.specs.declared.events.Event.{Event}
 use Rattle.n41_journal.specs.declared.events.Event.TheVariants.{Put, Took, Dialed, DialFailed, Broke}

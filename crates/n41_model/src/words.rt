@@ -1,5 +1,6 @@
 use bytes::Bytes;
-use n41_types::{SessionMade, Status};
+use n41_results::SessionMade;
+use n41_types::Status;
 
 /// Who a client is. `callers` is from 1 to 64, and the owner has at most 1,024 bytes.
 #[derive(Debug, Drop)]

@@ -7,6 +7,7 @@ mod openings;
 mod replies;
 mod results;
 mod sessions;
+mod shapes;
 
 pub use callbacks::{
     CbArg, CbArgs, CbBody, CbCall, CbOps, CbRecall, CbRecallAny, CbReply, CbRes, CbResults,
@@ -19,4 +20,5 @@ pub use results::{
     Content, Created, Entries, Entry, Listing, LockDenied, LockRefusal, LockType, Renamed, Res,
     Statuses, Written,
 };
+pub use shapes::Shape;
 pub use sessions::{Bound, Channel, Identity, ImplId, Sequenced, SessionMade};

@@ -10,17 +10,17 @@ use Rattle.n41_types.specs.declared.plans.Plan.{Plan}
 use Rattle.n41_types.specs.declared.plans.Plan.TheVariants as plan
 use Rattle.n41_types.specs.declared.plans.Request.{Request}
 use Rattle.n41_types.specs.declared.plans.SlotUse.{SlotUse}
-use Rattle.n41_types.specs.declared.replies.Reply.{Reply}
-use Rattle.n41_types.specs.declared.replies.ReplyBody.{ReplyBody}
-use Rattle.n41_types.specs.declared.replies.ReplyBody.TheVariants.{Denied, Rejected, Results}
-use Rattle.n41_types.specs.declared.results.Entry.{Entry}
-use Rattle.n41_types.specs.declared.results.Res.{Res}
-use Rattle.n41_types.specs.declared.results.Res.TheVariants as res
-use Rattle.n41_types.specs.declared.shapes.Shape.{Shape}
-use Rattle.n41_types.specs.declared.shapes.Shape.TheVariants as shape
+use Rattle.n41_results.specs.declared.replies.Reply.{Reply}
+use Rattle.n41_results.specs.declared.replies.ReplyBody.{ReplyBody}
+use Rattle.n41_results.specs.declared.replies.ReplyBody.TheVariants.{Denied, Rejected, Results}
+use Rattle.n41_results.specs.declared.results.Entry.{Entry}
+use Rattle.n41_results.specs.declared.results.Res.{Res}
+use Rattle.n41_results.specs.declared.results.Res.TheVariants as res
+use Rattle.n41_results.specs.declared.shapes.Shape.{Shape}
+use Rattle.n41_results.specs.declared.shapes.Shape.TheVariants as shape
 use Rattle.n41_types.specs.declared.statuses.Status.{Status}
 use Rattle.n41_types.specs.Operations.{number}
-use Rattle.n41_types.specs.Results.{operation_of, status_of}
+use Rattle.n41_results.specs.Results.{operation_of, status_of}
 
 -- how a place becomes the current filehandle (RFC 8881, PUTROOTFH and PUTFH)
 abbrev pub put_of : Place → Operation

@@ -1,0 +1,6 @@
+//! The journal.
+#![tactic(auto)]
+
+mod events;
+
+pub use events::{Cause, Event};
