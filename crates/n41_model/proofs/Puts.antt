@@ -11,10 +11,10 @@ use Rattle.n41_model.specs.declared.words.Item.{Item}
 use Rattle.n41_model.specs.declared.words.Item.TheVariants as item
 use Rattle.n41_model.specs.declared.words.Setup.{Setup}
 use Rattle.n41_model.specs.Requests.{bares, bare, bare_waits, outs, out, used, sent, moment, is_bare, standing, quit}
-use Rattle.n41_model.specs.Sessions.{session, slots, free_slot, is_free, is_empty, phase, put_off, passed, bound, target, highest}
+use Rattle.n41_model.specs.Sessions.{session, slots, free_slot, is_free, is_empty, phase, put_off, passed, bound, target, highest, next_xid}
 use Rattle.n41_types.specs.Plans.{class_of, is_cached}
 use Rattle.n41_model.specs.Calls.{command, next_plan, is_ready}
-use Rattle.n41_model.specs.Due.{due, item_due, only_if, with_plan, on_free, on_free_slot, slot_request, bare_request, bare_due, goes_again, finishing, is_dead, is_running, is_session, any_waits, any_own, step_plan, own_plan, destroy_plan, may_retry, may_step, may_own, may_begin, may_destroy, is_open}
+use Rattle.n41_model.specs.Due.{due, item_due, only_if, with_plan, on_free, on_free_slot, slot_request, bare_with, bare_due, goes_again, finishing, is_dead, is_running, is_session, any_waits, any_own, step_plan, own_plan, destroy_plan, may_retry, may_step, may_own, may_begin, may_destroy, is_open}
 use Rattle.n41_model.proofs.Tests.{and_true, not_true, only_if_some, with_plan_some, empty_is, free_is}
 
 -- the request without a slot goes again
@@ -43,11 +43,15 @@ pub record NewOn (js : List Event) (r : Request) : Type 0 where
 abbrev pub PutIs : List Event → Request → Type 0
 PutIs js r = AgainBare js r ⊎ (AgainOn js r ⊎ (NewBare js r ⊎ NewOn js r))
 
-bare_new : (u : Setup) (js : List Event) (p : Plan) (r : Request) → bares js ≡ [] → bare_due u js p ≡ Some r → PutIs js r
-bare_new u js p r a e = inr (inr (inl (record { no_slot = grind (arith, e); alone = a })))
+bare_at : (u : Setup) (js : List Event) (p : Plan) (r : Request) (o : Option ℕ) → bares js ≡ [] → bare_with u p o ≡ Some r → PutIs js r
+bare_at u js p r None a e = absurd (cc)
+bare_at u js p r (Some x) a e = inr (inr (inl (record { no_slot = grind (arith, e); alone = a })))
 
-slot_at : (u : Setup) (js : List Event) (m : SessionMade) (n : ℕ) (p : Plan) (r : Request) → is_free js n ≡ true → Some (slot_request u js m n p) ≡ Some r → NewOn js r
-slot_at u js m n p r f e =
+bare_new : (u : Setup) (js : List Event) (p : Plan) (r : Request) → bares js ≡ [] → bare_due u js p ≡ Some r → PutIs js r
+bare_new u js p r a e = bare_at u js p r (next_xid js) a e
+
+slot_at : (u : Setup) (js : List Event) (m : SessionMade) (n : ℕ) (p : Plan) (x : ℕ) (r : Request) → is_free js n ≡ true → Some (slot_request u js m n p x) ≡ Some r → NewOn js r
+slot_at u js m n p x r f e =
     let place : SlotUse = record { sid = m.sid; slot = n; turn = used js n + 1; highest = highest js n; cache = is_cached (class_of p) } in
     record {
       place = place;
@@ -56,13 +60,14 @@ slot_at u js m n p r f e =
       next = add-one (used js n);
     }
 
-slot_new_at : (u : Setup) (js : List Event) (p : Plan) (r : Request) (s : Option SessionMade) (o : Option ℕ) → free_slot js ≡ o → on_free u js s o p ≡ Some r → PutIs js r
-slot_new_at u js p r None o g e = absurd (cc)
-slot_new_at u js p r (Some m) None g e = absurd (cc)
-slot_new_at u js p r (Some m) (Some n) g e = inr (inr (inr (slot_at u js m n p r (free_is js 0 (slots js) n g) e)))
+slot_new_at : (u : Setup) (js : List Event) (p : Plan) (r : Request) (s : Option SessionMade) (o x : Option ℕ) → free_slot js ≡ o → on_free u js p s o x ≡ Some r → PutIs js r
+slot_new_at u js p r None o x g e = absurd (cc)
+slot_new_at u js p r (Some m) None x g e = absurd (cc)
+slot_new_at u js p r (Some m) (Some n) None g e = absurd (cc)
+slot_new_at u js p r (Some m) (Some n) (Some x) g e = inr (inr (inr (slot_at u js m n p x r (free_is js 0 (slots js) n g) e)))
 
 slot_new : (u : Setup) (js : List Event) (p : Plan) (r : Request) → on_free_slot u js p ≡ Some r → PutIs js r
-slot_new u js p r e = slot_new_at u js p r (session js) (free_slot js) refl e
+slot_new u js p r e = slot_new_at u js p r (session js) (free_slot js) (next_xid js) refl e
 
 item_is : (u : Setup) (js : List Event) (i : Item) (r : Request) → item_due u js i ≡ Some r → PutIs js r
 item_is u js item.Again r e =

@@ -110,10 +110,15 @@ fresh_call = record { busy = false; since = None; attempts = 0; earned = None }
 abbrev pub put_call : Call → Call
 put_call k = record { busy = true; since = None; attempts = k.attempts + 1; earned = k.earned }
 
+-- the attempts of a step are counted anew after an OK
+abbrev pub attempts_after : Option Verdict → ℕ → ℕ
+attempts_after (Some (v.Ran s)) n = if is_ok s then 0 else n
+attempts_after w n = n
+
 abbrev pub took_call : ℕ → Plan → Option Verdict → Reply → Call → Call
 took_call m p w y k =
     if is_final y
-    then record { busy = false; since = if is_put_off_by w k.attempts then Some m else None; attempts = k.attempts; earned = answer_in p w k.attempts y }
+    then record { busy = false; since = if is_put_off_by w k.attempts then Some m else None; attempts = attempts_after w k.attempts; earned = answer_in p w k.attempts y }
     else k
 
 -- the command can go on: it has no answer yet, no request out, and is not in its two seconds

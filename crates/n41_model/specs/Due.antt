@@ -37,22 +37,22 @@ is_session p = false
 
 -- ---- what is put anew
 
-abbrev pub bare_request : Setup → List Event → Plan → Request
-bare_request u js p = record { xid = next_xid js; uid = u.uid; gid = u.gid; minor = 1; slot = None; plan = p }
+abbrev pub bare_request : Setup → Plan → ℕ → Request
+bare_request u p x = record { xid = x; uid = u.uid; gid = u.gid; minor = 1; slot = None; plan = p }
 
-abbrev pub slot_request : Setup → List Event → SessionMade → ℕ → Plan → Request
-slot_request u js m n p = record {
-  xid = next_xid js; uid = u.uid; gid = u.gid; minor = 1;
+abbrev pub slot_request : Setup → List Event → SessionMade → ℕ → Plan → ℕ → Request
+slot_request u js m n p x = record {
+  xid = x; uid = u.uid; gid = u.gid; minor = 1;
   slot = Some (record { sid = m.sid; slot = n; turn = used js n + 1; highest = highest js n; cache = is_cached (class_of p) });
   plan = p }
 
-abbrev pub on_free : Setup → List Event → Option SessionMade → Option ℕ → Plan → Option Request
-on_free u js (Some m) (Some n) p = Some (slot_request u js m n p)
-on_free u js m n p = None
+abbrev pub on_free : Setup → List Event → Plan → Option SessionMade → Option ℕ → Option ℕ → Option Request
+on_free u js p (Some m) (Some n) (Some x) = Some (slot_request u js m n p x)
+on_free u js p m n x = None
 
 -- a new request with this plan on the lowest slot that is free
 abbrev pub on_free_slot : Setup → List Event → Plan → Option Request
-on_free_slot u js p = on_free u js (session js) (free_slot js) p
+on_free_slot u js p = on_free u js p (session js) (free_slot js) (next_xid js)
 
 -- ---- what is put again
 
@@ -127,8 +127,13 @@ abbrev pub with_plan : Option Plan → (Plan → Option Request) → Option Requ
 with_plan None f = None
 with_plan (Some p) f = f p
 
+abbrev pub bare_with : Setup → Plan → Option ℕ → Option Request
+bare_with u p None = None
+bare_with u p (Some x) = Some (bare_request u p x)
+
+-- a new request with this plan, without a slot
 abbrev pub bare_due : Setup → List Event → Plan → Option Request
-bare_due u js p = Some (bare_request u js p)
+bare_due u js p = bare_with u p (next_xid js)
 
 abbrev pub may_retry : Setup → List Event → ℕ → Bool
 may_retry u js n = not (finishing u.callers js) && bound js && nat_le (n + 1) (slots js) && goes_again (moment js) (sent js n)

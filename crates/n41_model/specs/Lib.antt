@@ -6,3 +6,4 @@ pub mod Answers
 pub mod Due
 pub mod Kept
 pub mod OneOut
+pub mod Text

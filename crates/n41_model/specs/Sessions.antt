@@ -152,12 +152,17 @@ slot_phase q v p = p
 abbrev pub next_phases : Phase → Phase → Phase × Phase
 next_phases p w = (p, worked p w)
 
+-- no reply leads out of Dead
+abbrev pub took_phase : List Event → Reply → Phase → Phase → Phase
+took_phase js y Dead w = Dead
+took_phase js y p w = slot_phase (plan_of js y) (verdict js y) (bare_phase (bare_verdict js y) p w)
+
 -- the phase, and the last one that was neither Down nor Binding
 abbrev pub phases : List Event → Phase × Phase
 phases [] = (Down, ClientId)
 phases (Dialed c ∷ js) = next_phases (dialed_phase (phases js).0 (session js) (client js)) (phases js).1
 phases (Broke c w ∷ js) = next_phases (broke_phase (phases js).0) (phases js).1
-phases (Took c p y ∷ js) = next_phases (slot_phase (plan_of js y) (verdict js y) (bare_phase (bare_verdict js y) (phases js).0 (phases js).1)) (phases js).1
+phases (Took c p y ∷ js) = next_phases (took_phase js y (phases js).0 (phases js).1) (phases js).1
 phases (e ∷ js) = phases js
 
 -- the phase of recovery
@@ -260,10 +265,12 @@ last_xid [] = 0
 last_xid (Put c p r ∷ js) = if knows (all_outs js) r.xid then last_xid js else r.xid
 last_xid (e ∷ js) = last_xid js
 
-abbrev pub skip : List Request → ℕ → ℕ → ℕ
-skip rs x zero = x
-skip rs x (suc k) = if knows rs x then skip rs (xid_after x) k else x
+-- the first of so many xids from this one on that no request here has
+abbrev pub unused_xid : List Request → ℕ → ℕ → Option ℕ
+unused_xid rs x zero = None
+unused_xid rs x (suc k) = if knows rs x then unused_xid rs (xid_after x) k else Some x
 
--- the xid of the next new request: those of requests that are out are passed over
-abbrev pub next_xid : List Event → ℕ
-next_xid js = skip (all_outs js) (xid_after (last_xid js)) (length (all_outs js))
+-- The xid of the next new request: the first one after the last that no request has which is out. It is found among one more than there
+-- are requests out.
+abbrev pub next_xid : List Event → Option ℕ
+next_xid js = unused_xid (all_outs js) (xid_after (last_xid js)) (suc (length (all_outs js)))
