@@ -1,6 +1,0 @@
-//! The journal.
-#![tactic(auto)]
-
-mod events;
-
-pub use events::{Cause, Event};
