@@ -2,7 +2,7 @@
 use Rattle.std.proofs.Common.{◌≡◌, ◌≤◌, ◌+◌, ◌∙◌, ap, sym, ℕ, List, ◌++◌, length, drop, take, append_assoc, take-add, Some, None, refl, subst}
 use Rattle.std.specs.declared.option.Option.{Option}
 use Rattle.std.specs.Io.KnownBytes.{append_known}
-use Rattle.std.proofs.Math.Seq.{drop-append_seam, take-append-add, take-append_seam}
+use Rattle.std.proofs.Math.Seq.{drop-append_seam, take-append-add, take-length}
 use Rattle.std.proofs.lemmas.List.{take-append-drop}
 use Rattle.n41_link.specs.Flow.{KnownAs}
 

@@ -53,6 +53,12 @@ fn write_text<O: Outflow>(outflow: &mut O, text: &[u8]) -> Written
     Written { len, failed: false }
 }
 
+fn len_of(log: &Vec<u8>) -> usize
+    ensures { result ≡ length log.now.items }
+{
+    log.len()
+}
+
 // Puts a record at the end of the log and writes it, or takes back what was not written.
 fn say_record<O: Outflow>(
     outflow: &mut O,
@@ -64,7 +70,7 @@ fn say_record<O: Outflow>(
     ensures told { KnownAs (O.put outflow.old) log.old.items → KnownAs (O.put outflow.new) log.new.items }
     ensures cause { Counts (O.faults outflow.old) (O.faults outflow.new) (failed_to_say result) }
 {
-    let start = log.len();
+    let start = len_of(log);
     let Ok(()) = put_record(log, bytes) else {
         return Err(SayFault::NoMemory);
     };
