@@ -1,3 +1,5 @@
+ghost use Rattle.std.specs.Prelude.{None, ◌≡◌, ◌≤◌};
+
 use crate::{MemClock, MemInflow, MemListener, MemOutflow, MemSink, MemSource};
 use n41_link::{
     Clock, Ear, EarFault, EarGot, Failed, Listener, Mouth, Outflow, SayFault, Sink, Source,
@@ -5,8 +7,6 @@ use n41_link::{
 use n41_types::Bytes;
 use std::alloc::Global;
 use std::test::Fail;
-
-ghost use Rattle.std.specs.Prelude.{None, ◌≡◌, ◌≤◌};
 
 fn pieces_of(alloc: Global, pieces: &[&[u8]]) -> Result<Vec<Bytes>, Fail> {
     let mut list = Vec::new(alloc);
@@ -73,7 +73,11 @@ fn an_ear_hears_records_however_they_are_cut(rt: HostRuntime) -> Result<(), Fail
             &[],
             "refused 0, refused 0, refused 0, refused 0, 4",
         ),
-        (&[&[0x80, 0x11, 0, 0], &[]], &[], "quiet 1, end 1, end 1, end 1, 4"),
+        (
+            &[&[0x80, 0x11, 0, 0], &[]],
+            &[],
+            "quiet 1, end 1, end 1, end 1, 4",
+        ),
         (
             &[&[], mark, &[7, 8]],
             &[3],
@@ -162,7 +166,10 @@ fn forms_in_memory_fail_at_the_calls_of_their_list(rt: HostRuntime) -> Result<()
     assert_eq!(rt; sink.inner().bytes(), b"kept".as_slice());
 
     let mut links = Vec::new(alloc);
-    links.push((MemInflow::new(alloc, &[], &[])?, MemOutflow::new(alloc, &[])?))?;
+    links.push((
+        MemInflow::new(alloc, &[], &[])?,
+        MemOutflow::new(alloc, &[])?,
+    ))?;
     let mut house = MemListener::new(alloc, links, &[1])?;
     assert!(rt; house.accept("x:1").is_err());
     assert!(rt; house.accept("x:1").is_ok());

@@ -27,7 +27,9 @@ fn records_pass_over_a_connection_of_this_machine(rt: HostRuntime) -> Result<(),
     assert_eq!(rt; mouth.say(b"who is there"), Ok(()));
     let mut ear = Ear::new(rt.alloc(), taken_in);
     let heard = ear.whole();
-    assert!(rt; matches!(&heard, Ok(EarGot::Whole(body)) if body.as_slice() == b"who is there".as_slice()));
+    assert!(rt;
+        matches!(&heard, Ok(EarGot::Whole(body)) if body.as_slice() == b"who is there".as_slice())
+    );
     assert!(rt; matches!(&ear.whole(), Ok(EarGot::Quiet)));
     assert_eq!(rt; (ear.still(), ear.got()), (1, 16));
     drop(dialed_in);
