@@ -1,0 +1,6 @@
+//! Record marking (RFC 5531, section 11).
+#![tactic(auto)]
+
+mod history;
+
+pub use history::History;
