@@ -1,6 +1,11 @@
 //! Record marking (RFC 5531, section 11).
 #![tactic(auto)]
 
+mod fault;
 mod history;
+mod marking;
+mod partial;
 
+pub use fault::GatherFault;
 pub use history::History;
+pub use marking::{append_marked, mark};

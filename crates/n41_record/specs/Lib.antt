@@ -1,0 +1,4 @@
+pub mod Fragments
+pub mod Streams
+pub mod Gathered
+pub mod Partials
