@@ -1,5 +1,5 @@
 -- What a Gather is to its callers.
-use Rattle.std.specs.Prelude.{◌≡◌, ℕ, List, ◌++◌, length, Option, None, Some}
+use Rattle.std.specs.Prelude.{◌≡◌, ℕ, List, ◌++◌, length, Option, None, Some, Result, Err, IsOk}
 use Rattle.n41_record.specs.declared.fault.GatherFault.{GatherFault}
 use Rattle.n41_record.specs.declared.fault.GatherFault.TheVariants.{TooLong, TooMany, NoMemory}
 use Rattle.n41_record.specs.Streams.{Records, Refused, BeginsWith}
@@ -23,3 +23,8 @@ Leaves g rest = IsReadAs g.fed (g.given ++ g.waiting) rest g.fault
 
 abbrev pub IsStanding : Gathered → Type 0
 IsStanding g = (rest : List ℕ) × Leaves g rest
+
+-- what a feed answers, by the fault that stands after it
+abbrev pub Answers : {T : Type 0} → Result T GatherFault → Option GatherFault → Type 0
+Answers result None = IsOk result
+Answers result (Some fault) = result ≡ Err fault

@@ -2,3 +2,4 @@ pub mod Fragments
 pub mod Streams
 pub mod Gathered
 pub mod Partials
+pub mod Sound

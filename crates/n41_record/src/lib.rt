@@ -4,8 +4,11 @@
 mod fault;
 mod history;
 mod marking;
+mod gather;
 mod partial;
+mod pieces;
 
 pub use fault::GatherFault;
+pub use gather::Gather;
 pub use history::History;
 pub use marking::{append_marked, mark};
