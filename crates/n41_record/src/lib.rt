@@ -12,3 +12,6 @@ pub use fault::GatherFault;
 pub use gather::Gather;
 pub use history::History;
 pub use marking::{append_marked, mark};
+
+#[cfg(test)]
+mod tests;
