@@ -1,5 +1,5 @@
 -- Records one after another, and the record under way as a rest.
-use Rattle.std.proofs.Common.{◌≡◌, ℕ, ◌+◌, ◌*◌, ◌<◌, ◌≤◌, ◌^◌, Bool, true, false, List, [], ◌∷◌, ◌++◌, length, refl, sym, ap, subst, ◌∙◌, append_assoc, length-append, arith, Option, None, Some, Result, Ok, Err, inl, inr}
+use Rattle.std.proofs.Common.{◌≡◌, ℕ, ◌+◌, List, [], ◌∷◌, ◌++◌, length, refl, sym, ap, subst, ◌∙◌, append_assoc, length-append, arith, Option, None, Some, Result, Ok, Err, inl, inr}
 use Rattle.std.proofs.lemmas.List.{append-nil}
 use Rattle.std.specs.List.{concat}
 use Rattle.std.specs.declared.vec.Vec.{Vec}
@@ -8,10 +8,10 @@ use Rattle.n41_record.specs.declared.partial.Partial.{Partial}
 use Rattle.n41_record.specs.declared.partial.Open.{Open}
 use Rattle.n41_record.specs.declared.fault.GatherFault.{GatherFault}
 use Rattle.n41_record.specs.declared.fault.GatherFault.TheVariants.{TooLong, TooMany, NoMemory}
-use Rattle.n41_record.specs.Fragments.{header, earlier, most_bytes, most_fragments, IsFragments, IsRest, IsRefused}
-use Rattle.n41_record.specs.Streams.{AreRecords, Records, Refused, BeginsWith}
+use Rattle.n41_record.specs.Fragments.{header, IsRest}
+use Rattle.n41_record.specs.Streams.{AreRecords, BeginsWith}
 use Rattle.n41_record.specs.Gathered.{IsReadAs}
-use Rattle.n41_record.specs.Partials.{IsPlaced, Holds, IsHeld, Grows, Stops}
+use Rattle.n41_record.specs.Partials.{IsPlaced, Holds, Grows, Stops}
 use Rattle.n41_record.specs.Sound.{IsStored, IsSound, Goes, Gathers}
 
 pub records_append : (a b : List ℕ) (xs ys : List (List ℕ)) → AreRecords a xs → AreRecords b ys → AreRecords (a ++ b) (xs ++ ys)
@@ -25,7 +25,8 @@ placed_rest p rest None h = record {
   tail = p.head.items;
   spelled = h.0.spelled;
   within = record { many = omega (arith, h.0.count, h.0.many); long = omega (arith, h.0.long, ap length h.0.bytes) };
-  short = inl h.1 }
+  short = inl h.1;
+}
 placed_rest p rest (Some o) h = record {
   before = h.0.before;
   tail = header o.last (length h.0.came + o.left) ++ h.0.came;
@@ -38,11 +39,13 @@ placed_rest p rest (Some o) h = record {
     spelled = refl;
     lacks = omega (arith, h.1);
     many = h.0.many;
-    long = omega (arith, h.0.long, ap length h.0.bytes, length-append (concat h.0.before) h.0.came) }) }
+    long = omega (arith, h.0.long, ap length h.0.bytes, length-append (concat h.0.before) h.0.came);
+  });
+}
 
 -- what is held of a record is a rest
 pub held_rest : (p : Partial) (rest : List ℕ) → Holds p rest → IsRest rest
-held_rest p rest h = placed_rest p rest p.open h.placed
+held_rest p rest h = placed_rest p rest p.part h.placed
 
 pub read_as : (fed : List ℕ) (list : List (List ℕ)) (p : Partial) (rest : List ℕ) (fault : Option GatherFault) → IsStored fed list p rest fault
     → IsReadAs fed list rest fault × (p.came ≡ length rest)
@@ -77,7 +80,8 @@ went_whole p old new rest piece front after whole v cut grown is e =
       cut = cut_along rest piece front after cut;
       records = (rest ++ front, [], sym (append-nil (rest ++ front)), g.0, refl);
       waiting = e;
-      holds = g.1 }
+      holds = g.1;
+    }
 
 -- the record under way is not whole
 pub went_more : (p : Partial) (old new : List (List ℕ)) (rest piece front after : List ℕ) (whole : Option (Vec ℕ Global)) → piece ≡ front ++ after
@@ -89,7 +93,8 @@ went_more p old new rest piece front after whole cut grown is e = record {
   cut = cut_along rest piece front after cut;
   records = refl;
   waiting = e ∙ sym (append-nil old);
-  holds = subst (Grows p (rest ++ front)) is grown }
+  holds = subst (Grows p (rest ++ front)) is grown;
+}
 
 pub goes_on : (p q : Partial) (old mid new : List (List ℕ)) (text after later : List ℕ) → Goes p old mid text after
     → ((rest : List ℕ) → Holds p rest → Goes q mid new (rest ++ after) later) → Goes q old new text later
@@ -102,7 +107,8 @@ goes_on p q old mid new text after later g next =
       cut = g.cut ∙ ap (λ (x : List ℕ). g.front ++ x) h.cut ∙ sym (append_assoc g.front h.front (h.rest ++ later));
       records = records_append g.front h.front g.added h.added g.records h.records;
       waiting = h.waiting ∙ ap (λ (x : List (List ℕ)). x ++ h.added) g.waiting ∙ append_assoc old g.added h.added;
-      holds = h.holds }
+      holds = h.holds;
+    }
 
 pub stopped : {T : Type 0} (p q : Partial) (old mid new : List (List ℕ)) (text after : List ℕ) (f : GatherFault) → Goes p old mid text after
     → ((rest : List ℕ) → Holds p rest → (new ≡ mid) × Stops (rest ++ after) f) → q.came ≡ p.came + length after → Gathers {T = T} q old new text (Err f)
@@ -115,7 +121,8 @@ stopped p q old mid new text after f g next came =
       cut = g.cut;
       records = g.records;
       waiting = h.0 ∙ g.waiting;
-      ends = (omega (arith, came, g.holds.size, length-append g.rest after), h.1) }
+      ends = (omega (arith, came, g.holds.size, length-append g.rest after), h.1);
+    }
 
 nothing_left : (xs : List ℕ) → length xs ≡ 0 → xs ≡ []
 nothing_left [] e = refl
@@ -129,14 +136,16 @@ ended p old new text after x g e = record {
   cut = g.cut ∙ ap (λ (t : List ℕ). g.front ++ t) (ap (λ (t : List ℕ). g.rest ++ t) (nothing_left after e) ∙ append-nil g.rest);
   records = g.records;
   waiting = g.waiting;
-  ends = g.holds }
+  ends = g.holds;
+}
 
 begun : {T : Type 0} (fed piece : List ℕ) (given old new : List (List ℕ)) (q : Partial) (rest : List ℕ) (r : Result T GatherFault) → BeginsWith fed (given ++ old) rest
     → (g : Gathers q old new (rest ++ piece) r) → BeginsWith (fed ++ piece) (given ++ new) g.rest
 begun fed piece given old new q rest r b g = record {
   front = b.front ++ g.front;
   whole = ap (λ (x : List ℕ). x ++ piece) b.whole ∙ append_assoc b.front rest piece ∙ ap (λ (x : List ℕ). b.front ++ x) g.cut ∙ sym (append_assoc b.front g.front g.rest);
-  records = subst (AreRecords (b.front ++ g.front)) (append_assoc given old g.added ∙ ap (λ (x : List (List ℕ)). given ++ x) (sym g.waiting)) (records_append b.front g.front (given ++ old) g.added b.records g.records) }
+  records = subst (AreRecords (b.front ++ g.front)) (append_assoc given old g.added ∙ ap (λ (x : List (List ℕ)). given ++ x) (sym g.waiting)) (records_append b.front g.front (given ++ old) g.added b.records g.records);
+}
 
 faulty : (fed : List ℕ) (list : List (List ℕ)) (rest : List ℕ) (f : GatherFault) → BeginsWith fed list rest → Stops rest f → IsReadAs fed list rest (Some f)
 faulty fed list rest (TooLong n) b s = record { front = b.front; whole = b.whole; records = b.records; ending = s }

@@ -1,11 +1,11 @@
 -- The record under way, before and after some bytes.
-use Rattle.std.proofs.Common.{◌≡◌, ℕ, ◌+◌, ◌-◌, ◌*◌, ◌<◌, ◌≤◌, ◌^◌, Bool, true, false, List, [], ◌∷◌, ◌++◌, length, refl, sym, ap, subst, ◌∙◌, append_assoc, length-append, arith, Option, None, Some, take, drop, take-append-drop}
+use Rattle.std.proofs.Common.{◌≡◌, ℕ, ◌+◌, ◌<◌, ◌≤◌, Bool, false, List, [], ◌∷◌, ◌++◌, length, sym, ap, subst, ◌∙◌, append_assoc, length-append, arith, Option, None, Some, take, drop, take-append-drop}
 use Rattle.n41_record.specs.declared.fault.GatherFault.{GatherFault}
 use Rattle.std.specs.List.{concat}
 use Rattle.std.proofs.lemmas.List.{append-nil}
 use Rattle.n41_record.specs.declared.partial.Partial.{Partial}
 use Rattle.n41_record.specs.declared.partial.Open.{Open}
-use Rattle.n41_record.specs.Fragments.{header, fragment, earlier, most_bytes, most_fragments}
+use Rattle.n41_record.specs.Fragments.{header, earlier}
 use Rattle.n41_record.specs.Partials.{IsBetween, IsInside, IsPlaced, Holds, Stops}
 use Rattle.n41_record.proofs.Spelled.{length-header, length-earlier, earlier_more, concat_more}
 
@@ -22,7 +22,8 @@ grown_inside p q last left more rest front i bytes count head fits =
       spelled = ap (λ (x : List ℕ). x ++ front) i.spelled ∙ append_assoc (earlier i.before) (header last (length i.came + left) ++ i.came) front ∙ ap (λ (x : List ℕ). earlier i.before ++ x) (append_assoc (header last (length i.came + left)) i.came front ∙ ap (λ (n : ℕ). header last n ++ (i.came ++ front)) size);
       bytes = bytes ∙ ap (λ (x : List ℕ). x ++ front) i.bytes ∙ append_assoc (concat i.before) i.came front;
       long = omega (arith, ap length bytes, length-append p.bytes.items front, i.long, fits);
-      head = head ∙ i.head }
+      head = head ∙ i.head;
+    }
 
 pub grown_between : (p q : Partial) (rest front : List ℕ) → IsBetween p rest
     → q.head.items ≡ p.head.items ++ front → q.bytes.items ≡ p.bytes.items → q.fragments ≡ p.fragments → length (p.head.items ++ front) ≤ 4
@@ -34,7 +35,8 @@ grown_between p q rest front b head bytes count fits = record {
   spelled = ap (λ (x : List ℕ). x ++ front) b.spelled ∙ append_assoc (earlier b.before) p.head.items front ∙ ap (λ (x : List ℕ). earlier b.before ++ x) (sym head);
   bytes = bytes ∙ b.bytes;
   long = omega (arith, ap length bytes, b.long);
-  below = omega (arith, ap length head, fits) }
+  below = omega (arith, ap length head, fits);
+}
 
 -- a fragment that is not the last has come whole
 pub closed : (p q : Partial) (rest : List ℕ) → IsInside p false 0 rest → q.bytes.items ≡ p.bytes.items → q.fragments ≡ p.fragments + 1 → q.head.items ≡ p.head.items
@@ -48,15 +50,16 @@ closed p q rest i bytes count head =
       spelled = i.spelled ∙ ap (λ (n : ℕ). earlier i.before ++ (header false n ++ i.came)) size ∙ sym (earlier_more i.before i.came) ∙ sym (append-nil _) ∙ ap (λ (x : List ℕ). earlier (i.before ++ i.came ∷ []) ++ x) (sym (head ∙ i.head));
       bytes = bytes ∙ i.bytes ∙ sym (concat_more i.before i.came);
       long = omega (arith, ap length bytes, i.long);
-      below = omega (arith, ap length (head ∙ i.head)) }
+      below = omega (arith, ap length (head ∙ i.head));
+    }
 
-pub hold_between : (p : Partial) (rest : List ℕ) → p.open ≡ None → p.came ≡ length rest → IsBetween p rest → length p.head.items < 4 → Holds p rest
+pub hold_between : (p : Partial) (rest : List ℕ) → p.part ≡ None → p.came ≡ length rest → IsBetween p rest → length p.head.items < 4 → Holds p rest
 hold_between p rest is size b below = record { size = size; placed = subst (IsPlaced p rest) (sym is) (b, below) }
 
-pub held_between : (p : Partial) (rest : List ℕ) → p.open ≡ None → Holds p rest → IsBetween p rest × (length p.head.items < 4)
+pub held_between : (p : Partial) (rest : List ℕ) → p.part ≡ None → Holds p rest → IsBetween p rest × (length p.head.items < 4)
 held_between p rest is h = subst (IsPlaced p rest) is h.placed
 
-pub held_inside : (p : Partial) (o : Open) (rest : List ℕ) → p.open ≡ Some o → Holds p rest → IsInside p o.last o.left rest × (0 < o.left)
+pub held_inside : (p : Partial) (o : Open) (rest : List ℕ) → p.part ≡ Some o → Holds p rest → IsInside p o.last o.left rest × (0 < o.left)
 held_inside p o rest is h = subst (IsPlaced p rest) is h.placed
 
 -- how long a rest can be
@@ -71,7 +74,7 @@ placed_size p rest None h = between_size p rest h.0
 placed_size p rest (Some o) h = inside_size p o.last o.left rest h.0
 
 pub held_size : (p : Partial) (rest : List ℕ) → Holds p rest → length rest ≤ 1130500
-held_size p rest h = placed_size p rest p.open h.placed
+held_size p rest h = placed_size p rest p.part h.placed
 
 pub cut_at : (mid : ℕ) (piece front after : List ℕ) → front ≡ take mid piece → after ≡ drop mid piece → piece ≡ front ++ after
 cut_at mid piece front after f a = sym (ap (λ (x : List ℕ). x ++ after) f ∙ ap (λ (x : List ℕ). take mid piece ++ x) a ∙ take-append-drop mid piece)

@@ -1,7 +1,7 @@
 -- What a Gather is to its callers.
-use Rattle.std.specs.Prelude.{◌≡◌, ℕ, List, ◌++◌, length, Option, None, Some, Result, Err, IsOk}
+use Rattle.std.specs.Prelude.{◌≡◌, ℕ, List, ◌++◌, Option, None, Some, Result, Err, IsOk}
 use Rattle.n41_record.specs.declared.fault.GatherFault.{GatherFault}
-use Rattle.n41_record.specs.declared.fault.GatherFault.TheVariants.{TooLong, TooMany, NoMemory}
+use Rattle.n41_record.specs.declared.fault.GatherFault.TheVariants.{NoMemory}
 use Rattle.n41_record.specs.Streams.{Records, Refused, BeginsWith}
 
 -- all bytes fed, all records given, the whole records that wait, and the fault that came

@@ -3,3 +3,4 @@ pub mod Streams
 pub mod Gathered
 pub mod Partials
 pub mod Sound
+pub mod Laws

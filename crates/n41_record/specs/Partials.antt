@@ -7,8 +7,8 @@ use Rattle.n41_record.specs.declared.partial.Partial.{Partial}
 use Rattle.n41_record.specs.declared.partial.Open.{Open}
 use Rattle.n41_record.specs.declared.partial.Taken.{Taken}
 use Rattle.n41_record.specs.declared.fault.GatherFault.{GatherFault}
-use Rattle.n41_record.specs.declared.fault.GatherFault.TheVariants.{TooLong, TooMany, NoMemory}
-use Rattle.n41_record.specs.Fragments.{header, fragment, earlier, most_bytes, most_fragments, IsFragments, IsRefused}
+use Rattle.n41_record.specs.declared.fault.GatherFault.TheVariants.{NoMemory}
+use Rattle.n41_record.specs.Fragments.{header, earlier, most_bytes, most_fragments, IsFragments, IsRefused}
 
 -- the whole fragments, and what has come of the next header
 pub record IsBetween (p : Partial) (rest : List ℕ) : Type 0 where
@@ -38,7 +38,7 @@ IsPlaced p rest (Some o) = IsInside p o.last o.left rest × (0 < o.left)
 -- the record under way has come as this rest
 pub record Holds (p : Partial) (rest : List ℕ) : Type 0 where
   pub size : p.came ≡ length rest
-  pub placed : IsPlaced p rest p.open
+  pub placed : IsPlaced p rest p.part
 
 abbrev pub IsHeld : Partial → Type 0
 IsHeld p = (rest : List ℕ) × Holds p rest

@@ -2,15 +2,17 @@
 #![tactic(auto)]
 
 mod fault;
-mod history;
-mod marking;
 mod gather;
+mod history;
+mod laws;
+mod marking;
 mod partial;
 mod pieces;
 
 pub use fault::GatherFault;
 pub use gather::Gather;
 pub use history::History;
+pub use laws::{cutting_changes_nothing, streams_have_one_reading};
 pub use marking::{append_marked, mark};
 
 #[cfg(test)]

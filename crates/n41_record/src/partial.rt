@@ -28,7 +28,7 @@ pub(crate) struct Partial {
     /// How many of its fragments are whole.
     pub(crate) fragments: u32,
     /// The fragment that is under way.
-    pub(crate) open: Option<Open>,
+    pub(crate) part: Option<Open>,
     /// What has come of the next header, where no fragment is under way.
     pub(crate) head: Vec<u8>,
     /// How many bytes have come, with headers.
@@ -68,7 +68,7 @@ impl Partial {
         Partial {
             bytes: Vec::new(alloc),
             fragments: 0,
-            open: None,
+            part: None,
             head: Vec::new(alloc),
             came: 0,
         }
@@ -80,7 +80,7 @@ impl Partial {
         ensures { (rest : List ℕ) → self.old.came ≡ length rest → IsInside self.old last 0 rest
             → Grows self.new rest result }
     {
-        self.open = None;
+        self.part = None;
         if !last {
             self.fragments += 1;
             return None;
@@ -108,13 +108,13 @@ impl Partial {
         if left == 0 {
             return Ok(self.close(alloc, last));
         }
-        self.open = Some(Open { last, left });
+        self.part = Some(Open { last, left });
         Ok(None)
     }
 
     fn take_header<'a>(&mut self, alloc: Global, piece: &'a [u8]) -> Result<Taken<'a>, GatherFault>
         requires some { 0 < length piece.now }
-        requires closed { self.old.open ≡ None }
+        requires closed { self.old.part ≡ None }
         requires between { (rest : List ℕ) × (self.old.came ≡ length rest) × IsBetween self.old rest × (length self.old.head.items < 4) }
         ensures { (rest : List ℕ) → self.old.came ≡ length rest → IsBetween self.old rest
             → Takes self.new rest piece.now result }
@@ -148,7 +148,7 @@ impl Partial {
             let whole = self.close(alloc, part.last);
             return Ok(Taken { after, whole });
         }
-        self.open = Some(Open {
+        self.part = Some(Open {
             last: part.last,
             left,
         });
@@ -165,7 +165,7 @@ impl Partial {
         requires held { IsHeld self.old }
         ensures { (rest : List ℕ) → Holds self.old rest → Takes self.new rest piece.now result }
     {
-        match self.open {
+        match self.part {
             None => self.take_header(alloc, piece),
             Some(part) => self.take_bytes(alloc, piece, part),
         }

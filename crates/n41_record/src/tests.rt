@@ -35,10 +35,15 @@ fn reads<R: Abort>(
 }
 
 const EMPTY: [u8; 6] = [0x80, 0, 0, 0, 0, 0];
+
 const TWO_FRAGMENTS: [u8; 11] = [0, 0, 0, 2, 0x61, 0x62, 0x80, 0, 0, 1, 0x63];
+
 const TWO_RECORDS: [u8; 15] = [0x80, 0, 0, 1, 7, 0, 0, 0, 0, 0x80, 0, 0, 2, 8, 9];
+
 const LONG: [u8; 9] = [0x80, 0, 0, 1, 7, 0x80, 0x11, 0, 1];
+
 const LONG_SUM: [u8; 10] = [0, 0, 0, 2, 1, 2, 0x80, 0x10, 0xff, 0xff];
+
 const MARKED: [u8; 7] = [0x80, 0, 0, 3, 0x61, 0x62, 0x63];
 
 #[test]
@@ -46,13 +51,45 @@ fn any_cutting_gives_the_same_records(rt: HostRuntime) -> Result<(), Fail> {
     for size in 1..12 {
         reads(&rt, rt.alloc(), &EMPTY, size, &[b""], 2, None)?;
         reads(&rt, rt.alloc(), &TWO_FRAGMENTS, size, &[b"abc"], 0, None)?;
-        reads(&rt, rt.alloc(), &TWO_RECORDS, size, &[&[7], &[8, 9]], 0, None)?;
+        reads(
+            &rt,
+            rt.alloc(),
+            &TWO_RECORDS,
+            size,
+            &[&[7], &[8, 9]],
+            0,
+            None,
+        )?;
     }
-    reads(&rt, rt.alloc(), &LONG, 1, &[&[7]], 4, Some(GatherFault::TooLong(1_114_113)))?;
-    reads(&rt, rt.alloc(), &LONG_SUM, 1, &[], 10, Some(GatherFault::TooLong(1_114_113)))?;
+    reads(
+        &rt,
+        rt.alloc(),
+        &LONG,
+        1,
+        &[&[7]],
+        4,
+        Some(GatherFault::TooLong(1_114_113)),
+    )?;
+    reads(
+        &rt,
+        rt.alloc(),
+        &LONG_SUM,
+        1,
+        &[],
+        10,
+        Some(GatherFault::TooLong(1_114_113)),
+    )?;
     let zeros = vec![in rt.alloc(); 0u8; 16_388]?;
     reads(&rt, rt.alloc(), &zeros[..16_387], 16, &[], 16_387, None)?;
-    reads(&rt, rt.alloc(), &zeros, 16, &[], 16_388, Some(GatherFault::TooMany))?;
+    reads(
+        &rt,
+        rt.alloc(),
+        &zeros,
+        16,
+        &[],
+        16_388,
+        Some(GatherFault::TooMany),
+    )?;
     let text = mark(rt.alloc(), b"abc")?;
     assert_eq!(rt; text.as_slice(), MARKED.as_slice());
     Ok(())

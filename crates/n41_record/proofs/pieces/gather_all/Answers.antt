@@ -1,4 +1,4 @@
-use Rattle.std.proofs.Common.{List, ℕ, length, refl, arith}
+use Rattle.std.proofs.Common.{refl, arith}
 use Rattle.std.proofs.lemmas.Bool.Decides.{nat_tests}
 use Rattle.n41_record.proofs.Grown.{held_size}
 use Rattle.n41_record.proofs.Gathering.{goes_on, stopped, ended}
@@ -14,7 +14,8 @@ loop-left-preserved c =
     let g = c.loop-left.invariant.goes c.requires.0 c.requires.1 in
     record {
       goes = λ rest h. goes_on _ _ _ _ _ _ _ _ (c.loop-left.invariant.goes rest h) (λ r k. (c.in-Ok.ensures r k).0);
-      short = omega (arith, (c.in-Ok.ensures g.rest g.holds).1, c.loop-left.invariant.short) }
+      short = omega (arith, (c.in-Ok.ensures g.rest g.holds).1, c.loop-left.invariant.short);
+    }
 
 pub returns-in-Err : goal.returns-in-Err
 returns-in-Err c = λ rest h. stopped _ _ _ _ _ _ _ _ (c.loop-left.invariant.goes rest h) (λ r k. c.in-Err.ensures r k) refl

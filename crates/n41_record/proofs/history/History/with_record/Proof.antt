@@ -1,34 +1,32 @@
 -- `with_record` makes a value of no bytes, whose ghost fields are as its clause says.
-use mathlib.Core.Path.{refl, sym, subst}
-use Prim.Native.Nat.{ℕ}
+use mathlib.Core.Path.{refl}
 use Rattle.std.proofs.Common.{length}
 use mathlib.Core.List.{List, [], ◌∷◌, ◌++◌}
 use seplogic.Ra.Ura.{Ura}
 use mir.Syntax.{Fn}
-use mir.Val.{Val, vptr, vstruct, vcons, vnil}
-use base.Logic.{SProp, ent, via, fst∗, snd∗}
+use mir.Val.{Val, vptr, vstruct, vnil}
+use base.Logic.{SProp, ent}
 use base.Fml.{Fml}
 use prog.Memory.{Memory}
 use prog.Routine.{Routine}
 use prog.Wp.{Calls, Loops, WpFn, Tables}
-use contract.Monad.{Fun, fact_use}
+use contract.Monad.{Fun}
 use contract.Running.{tables, tables_of}
 use sound.WpLaws.{WpFn-mono}
-use types.Logic.{Logic, sem}
-use types.Kit.{‵, raw, ◌⊛◌, ◌$◌, ◌∵◌, !, prop, qed, move, keep, drop, split, join, fjoin, fsplit, feq_l, flt_l, regoal, use0, suffices, done}
-use types.Run.{no_more, and_then, returns, enter}
+use types.Logic.{Logic}
+use types.Kit.{‵, raw, ◌⊛◌, ◌$◌, ◌∵◌, !, prop, qed, move, keep, drop, split, fjoin, fsplit, feq_l, flt_l, regoal, use0, suffices, done}
+use types.Run.{no_more, returns, enter}
 use types.Part.{agg}
-use types.ByLocal.{alloc_all, pass_all, free_all, look_at, get, sets, env}
-use denote.Opens.{unhide}
-use denote.RattleType.{RattleType, owns}
+use types.ByLocal.{alloc_all, pass_all, free_all, look_at, sets}
+use denote.RattleType.{owns}
 use denote.Exit.{yes}
 use denote.Slice.{slice_val}
 use denote.Shadow.{makes_shadow}
 use denote.Builtin.{u8, RefOf, SliceRefOf}
-use denote.Signature.{types_at, type_at, plain}
+use denote.Signature.{types_at, plain}
 use denote.Steps.{nothing}
 use denote.Triple.Clauses.{Clauses, Ended, closing}
-use denote.Triple.Entry.{on_entry, alive}
+use denote.Triple.Entry.{alive}
 use denote.Triple.Spec.{Meets, triple_of}
 use denote.Triple.Table.{entered}
 use denote.Triple.Walked.{says, on_exit, Stays, stay_dropped, walk_of, ends_at, Goes-dropped, walk_Meets}

@@ -1,8 +1,5 @@
-use Rattle.std.proofs.Common.{rules, ◌≡◌, ◌+◌, ◌-◌, ◌≤◌, ◌<◌, ◌^◌, [], ℕ, List, ◌++◌, length, take, drop, ap, refl, sym, subst, ◌∙◌, arith, append_assoc, length-append, None, Some, true, false}
-use Rattle.std.proofs.lemmas.Result.{err_from_is_err_and}
-use Rattle.n41_record.specs.Fragments.{header, most_bytes, most_fragments}
-use Rattle.n41_record.specs.Partials.{Holds, IsHeld, IsBetween, IsInside, Grows, Begins, Takes, Uses, Stops}
-use Rattle.n41_record.proofs.Grown.{grown_inside, grown_between, closed, hold_between, held_between, held_inside, between_size, inside_size, cut_at, size_more, stops_along}
+use Rattle.std.proofs.Common.{◌-◌, ℕ, List, ◌++◌, length, refl, arith}
+use Rattle.n41_record.proofs.Grown.{grown_inside, inside_size, cut_at, size_more}
 use Rattle.n41_record.proofs.partial.Partial.take_bytes.Goals as goal
 
 pub overflow_add-self : goal.overflow_add-self
@@ -15,7 +12,8 @@ returns-then-left-eq0 c = λ rest size i.
       front = front;
       cut = cut_at c.min.result _ _ _ c.split_at.ensures.front c.split_at.ensures.back;
       some = omega (arith, c.split_at.ensures.back_len, c.min.ensures, c.requires.some);
-      grown = c.close-whole.ensures (rest ++ front) (size_more _ rest front size) (grown_inside _ _ c.args.part.last c.args.part.left 0 rest front i c.in_ok-extend_from_slice.ensures.items refl refl (omega (arith, c.if-left-eq0.true, c.split_at.ensures.front_len, c.min.ensures))) }
+      grown = c.close-whole.ensures (rest ++ front) (size_more _ rest front size) (grown_inside _ _ c.args.part.last c.args.part.left 0 rest front i c.in_ok-extend_from_slice.ensures.items refl refl (omega (arith, c.if-left-eq0.true, c.split_at.ensures.front_len, c.min.ensures)));
+    }
 
 pub returns : goal.returns
 returns c = λ rest size i.
@@ -24,4 +22,5 @@ returns c = λ rest size i.
       front = front;
       cut = cut_at c.min.result _ _ _ c.split_at.ensures.front c.split_at.ensures.back;
       some = omega (arith, c.split_at.ensures.back_len, c.min.ensures, c.requires.some);
-      grown = record { size = size_more _ rest front size; placed = (grown_inside _ _ c.args.part.last c.args.part.left (c.args.part.left - length front) rest front i c.in_ok-extend_from_slice.ensures.items refl refl (omega (arith, c.split_at.ensures.front_len, c.min.ensures)), omega (arith, c.if-left-eq0.false)) } }
+      grown = record { size = size_more _ rest front size; placed = (grown_inside _ _ c.args.part.last c.args.part.left (c.args.part.left - length front) rest front i c.in_ok-extend_from_slice.ensures.items refl refl (omega (arith, c.split_at.ensures.front_len, c.min.ensures)), omega (arith, c.if-left-eq0.false)) };
+    }
