@@ -5,6 +5,9 @@ use std::alloc::Global;
 use std::process::Abort;
 use std::test::*;
 
+// A Gather may go to another thread, and be shared.
+fn crosses_threads<T: Send + Sync>(_value: &T) {}
+
 // Feeds a stream in pieces of a size, up to a fault, and compares what comes out.
 fn reads<R: Abort>(
     rt: &R,
@@ -18,6 +21,7 @@ fn reads<R: Abort>(
     requires { 0 < size }
 {
     let mut gather = Gather::new(alloc);
+    crosses_threads(&gather);
     for piece in stream.chunks(size) {
         if gather.feed(piece).is_err() {
             break;
