@@ -1,0 +1,4 @@
+pub mod Names
+pub mod Operations
+pub mod Plans
+pub mod Spans

@@ -1,12 +1,31 @@
-ghost use Rattle.std.specs.Prelude.{◌≡◌, ◌≤◌, [], List, length, nat_eq};
+ghost use Rattle.std.specs.Prelude.{◌≡◌, ◌≤◌, length};
 ghost use Rattle.std.specs.Cmp.Lexicographic.{pointwise, nat_list_eq_equiv};
+ghost use Rattle.std.specs.Prelude.{nat_eq};
 ghost use Rattle.std.specs.Cmp.{partial_equiv_from_equiv};
 
+use crate::sequence::Sequence;
 use bytes::Bytes;
 use std::alloc::AllocError;
 use std::marker::Model;
 
-/// A filehandle, of 0 to 128 bytes.
+/// Eight bytes that one side makes up and the other only compares (RFC 8881, verifier4).
+pub type Verifier = [u8; 8];
+
+/// The name of an open, a lock or a delegation, and the number of its changes (RFC 8881, stateid4).
+#[derive(Clone, Copy, Debug, PartialEq, Eq)]
+pub struct Stateid {
+    pub seqid: u32,
+    pub other: [u8; 12],
+}
+
+/// A list of stateids.
+pub type Stateids = Sequence<Stateid>;
+
+/// The name of a session (RFC 8881, sessionid4).
+#[derive(Clone, Copy, Debug, PartialEq, Eq)]
+pub struct SessionId(pub [u8; 16]);
+
+/// A filehandle, of 0 to 128 bytes (RFC 8881, nfs_fh4).
 #[derive(Debug, Drop)]
 pub struct Fh {
     bytes: Bytes,
@@ -23,6 +42,7 @@ impl Model for Fh {
 }
 
 impl Fh {
+    /// The filehandle that the bytes are.
     pub fn new(bytes: Bytes) -> Fh
         requires { length bytes ≤ 128 }
         ensures { result ≡ bytes }
@@ -30,6 +50,7 @@ impl Fh {
         Fh { bytes }
     }
 
+    /// Its bytes.
     pub fn as_slice(&self) -> &[u8]
         ensures value { result.now ≡ self.now }
         ensures bound { length self.now ≤ 128 }
@@ -61,3 +82,6 @@ impl PartialEq for Fh {
 impl Eq for Fh {
     ghost laws = { nat_list_eq_equiv };
 }
+
+/// A list of filehandles.
+pub type Fhs = Sequence<Fh>;
