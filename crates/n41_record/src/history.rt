@@ -4,11 +4,11 @@ ghost use Rattle.std.specs.Prelude.{◌≡◌, ℕ, List, [], ◌∷◌, ◌++�
 use std::marker::Model;
 
 /// What was fed to a reader and what it gave. It has no bytes: contracts alone see it.
-pub struct History {
+pub(crate) struct History {
     /// The bytes that were fed, in order.
-    pub ghost fed: { List ℕ },
+    pub(crate) ghost fed: { List ℕ },
     /// The records that were given, in order.
-    pub ghost given: { List (List ℕ) },
+    pub(crate) ghost given: { List (List ℕ) },
 }
 
 impl Model for History {
@@ -25,14 +25,14 @@ impl Drop for History {
 
 impl History {
     /// Nothing was fed.
-    pub fn empty() -> History
+    pub(crate) fn empty() -> History
         ensures { (result.fed ≡ []) × (result.given ≡ []) }
     {
         History {}
     }
 
     /// With the bytes of a piece at the end.
-    pub fn with_piece(&self, piece: &[u8]) -> History
+    pub(crate) fn with_piece(&self, piece: &[u8]) -> History
         ensures { (result.fed ≡ self.now.fed ++ piece.now) × (result.given ≡ self.now.given) }
     {
         let _ = piece;
@@ -40,7 +40,7 @@ impl History {
     }
 
     /// With a record that was given at the end.
-    pub fn with_record(&self, bytes: &[u8]) -> History
+    pub(crate) fn with_record(&self, bytes: &[u8]) -> History
         ensures { (result.fed ≡ self.now.fed) × (result.given ≡ self.now.given ++ bytes.now ∷ []) }
     {
         let _ = bytes;

@@ -11,7 +11,6 @@ mod pieces;
 
 pub use fault::GatherFault;
 pub use gather::Gather;
-pub use history::History;
 pub use laws::{cutting_changes_nothing, streams_have_one_reading};
 pub use marking::{append_marked, mark};
 
