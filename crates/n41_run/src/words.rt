@@ -43,11 +43,20 @@ pub fn command_of(words: &[String]) -> Result<Command<'_>, usize>
     ensures probe { IfOk result (λ command. AsksProbe (map string_bytes words.now) (address_of command)) }
     ensures bad { IfErr result (λ place. IsFirstBad (map string_bytes words.now) place) }
 {
-    match words {
-        [] => Err(1),
-        [first, ..] if first.as_str() != "probe" => Err(1),
-        [_, address] if is_address(address.as_str()) => Ok(Command::Probe(address.as_str())),
-        [_, address, _, ..] if is_address(address.as_str()) => Err(3),
-        _ => Err(2),
+    let Some((first, others)) = words.split_first() else {
+        return Err(1);
+    };
+    if first.as_str() != "probe" {
+        return Err(1);
     }
+    let Some((address, more)) = others.split_first() else {
+        return Err(2);
+    };
+    if !is_address(address.as_str()) {
+        return Err(2);
+    }
+    if !more.is_empty() {
+        return Err(3);
+    }
+    Ok(Command::Probe(address.as_str()))
 }
