@@ -1,4 +1,4 @@
-ghost use Rattle.std.specs.Prelude.{◌≡◌, ◌<◌, ◌++◌, ◌∷◌, ◌↔◌, ℕ, List, length, get_or, map, string_bytes, IsTrue, IsOk, IfOk, IfErr, IfSome, IfNone};
+ghost use Rattle.std.specs.Prelude.{◌≡◌, ◌<◌, ◌++◌, ◌∷◌, ◌↔◌, ℕ, codes, List, length, get_or, map, string_bytes, IsTrue, IsOk, IfOk, IfErr, IfSome, IfNone};
 ghost use Rattle.n41_run.specs.Words.{IsPort, IsAddress, AsksProbe, IsForm, IsFirstBad};
 ghost use Rattle.n41_run.specs.Asked.{address_of};
 
@@ -7,6 +7,12 @@ ghost use Rattle.n41_run.specs.Asked.{address_of};
 pub enum Command<'a> {
     /// One exchange with the server at this address.
     Probe(&'a str),
+}
+
+fn is_probe(word: &str) -> bool
+    ensures { IsTrue result ↔ (word.now ≡ codes "probe") }
+{
+    word == "probe"
 }
 
 /// Whether the text is the decimal numeral of a port, without leading zeros.
@@ -46,7 +52,7 @@ pub fn command_of(words: &[String]) -> Result<Command<'_>, usize>
     let Some((first, others)) = words.split_first() else {
         return Err(1);
     };
-    if first.as_str() != "probe" {
+    if !is_probe(first.as_str()) {
         return Err(1);
     }
     let Some((address, more)) = others.split_first() else {
