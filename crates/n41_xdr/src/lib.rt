@@ -2,9 +2,11 @@
 #![tactic(auto)]
 
 mod fault;
+mod laws;
 mod reader;
 mod writer;
 
 pub use fault::XdrFault;
+pub use laws::{no_spelling_begins_another, what_is_written_is_read};
 pub use reader::Reader;
 pub use writer::Writer;

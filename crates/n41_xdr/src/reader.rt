@@ -2,6 +2,7 @@ ghost use Rattle.std.specs.Prelude.{◌≡◌, ◌<◌, ◌≤◌, ◌^◌, ◌�
 ghost use Rattle.std.specs.Int.{w32, w64};
 ghost use Rattle.n41_xdr.specs.Spelling.{fill_len};
 ghost use Rattle.n41_xdr.specs.Reading.{Reads, taken_at, number_at, boolean_at, fixed_at, opaque_at, all_zero};
+ghost use Rattle.n41_xdr.specs.Lawful.{IsBytes};
 
 use crate::fault::XdrFault;
 use std::marker::Model;
@@ -42,7 +43,8 @@ fn all_zero(bytes: &[u8]) -> bool
 
 impl<'a> Reader<'a> {
     pub fn new(bytes: &'a [u8]) -> Reader<'a>
-        ensures { result ≡ bytes.now }
+        ensures left { result ≡ bytes.now }
+        ensures bytes { IsBytes bytes.now }
     {
         Reader { rest: bytes }
     }
