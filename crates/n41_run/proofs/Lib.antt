@@ -1,2 +1,4 @@
 pub mod Address
 pub mod Forms
+pub mod Lengths
+pub mod ReplyLawful

@@ -1,7 +1,9 @@
 //! The top calls of the program: what it does for its words, over traits of the outside.
 #![tactic(auto)]
 
+mod exchange;
 mod fault;
+mod line;
 mod words;
 
 pub use fault::RunFault;
