@@ -2,3 +2,4 @@ pub mod Address
 pub mod Forms
 pub mod Lengths
 pub mod ReplyLawful
+pub mod Growing

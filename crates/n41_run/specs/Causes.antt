@@ -1,7 +1,8 @@
 -- The statuses of the program and the lines of its faults (own).
-use Rattle.std.specs.Prelude.{ℕ, List, [], ◌++◌, codes, Result, Ok, Err, Some, None}
+use Rattle.std.specs.Prelude.{◌≡◌, ◌<◌, ◌≤◌, ◌⊎◌, ℕ, List, [], ◌++◌, codes, Result, Ok, Err, Some, None}
 use Rattle.std.specs.declared.option.Option.{Option}
 use Rattle.std.specs.Fmt.{decimal}
+use Rattle.n41_link.specs.Marks.{IsRefused}
 use Rattle.n41_run.specs.declared.fault.RunFault.{RunFault}
 use Rattle.n41_run.specs.declared.fault.RunFault.TheVariants.{Words, ReadFault, WriteFault, Unreachable, Breach, NoMemory}
 
@@ -31,3 +32,17 @@ fault_text WriteFault = codes "write fault"
 fault_text (Unreachable rounds) = codes "unreachable after " ++ decimal rounds ++ codes " rounds"
 fault_text (Breach event) = codes "breach at event " ++ decimal event
 fault_text NoMemory = codes "no memory"
+
+-- the faults that a probe may have
+abbrev pub IsOfProbe : Option RunFault → Type 0
+IsOfProbe None = Unit {0}
+IsOfProbe (Some (Words place)) = ⊥
+IsOfProbe (Some ReadFault) = ⊥
+IsOfProbe (Some WriteFault) = Unit {0}
+IsOfProbe (Some (Unreachable rounds)) = rounds ≡ 1
+IsOfProbe (Some (Breach event)) = event ≡ 0
+IsOfProbe (Some NoMemory) = Unit {0}
+
+-- Why no record came: what was read from failed or ended, what came begins no record, or nothing came for 60 turns.
+abbrev pub IsCut : ℕ → ℕ → List ℕ → ℕ → Type 0
+IsCut faults ends log still = (0 < faults) ⊎ ((0 < ends) ⊎ (IsRefused log ⊎ (60 ≤ still)))

@@ -2,3 +2,4 @@ pub mod Words
 pub mod Causes
 pub mod Asked
 pub mod Exchange
+pub mod Probed

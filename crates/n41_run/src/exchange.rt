@@ -69,9 +69,10 @@ fn put_exchange_id(w: &mut Writer, moment: u64) -> Result<(), NoMemory>
 }
 
 /// The call of a probe at this moment.
-#[tactic(auto, unfolding(crate::specs::Exchange::request))]
+#[tactic(auto, using(crate::proofs::Lengths::request_is_short), unfolding(crate::specs::Exchange::request))]
 pub fn request_of(alloc: Global, moment: u64) -> Result<Vec<u8>, NoMemory>
-    ensures { IfOk result (λ call. call.items ≡ request moment) }
+    ensures spelled { IfOk result (λ call. call.items ≡ request moment) }
+    ensures short { IfOk result (λ call. length call.items ≤ 108) }
 {
     let mut w = Writer::new(alloc);
     put_call_head(alloc, &mut w)?;

@@ -4,7 +4,12 @@
 mod exchange;
 mod fault;
 mod line;
+mod probing;
+mod sinking;
+mod talk;
 mod words;
 
 pub use fault::RunFault;
+pub use probing::probe;
+pub use talk::Talk;
 pub use words::{Command, command_of};
