@@ -1,25 +1,27 @@
 -- What an ear answers, beside the bytes that it has read. (own)
-use Rattle.std.specs.Prelude.{◌≡◌, ◌<◌, ◌≤◌, ◌+◌, ◌-◌, ◌^◌, min, ℕ, Bool, true, false, List, length, drop, Option, Some, None, Result, Ok, Err}
-use Rattle.n41_link.specs.Marks.{Begins, IsRefused, IsPartial}
+use Rattle.std.specs.Prelude.{◌≡◌, ◌⊎◌, ◌++◌, ◌<◌, ◌≤◌, ◌+◌, ◌-◌, ◌^◌, min, ℕ, Bool, true, false, List, length, drop, Option, Some, None, Result, Ok, Err}
+use Rattle.n41_link.specs.Marks.{Begins, IsRefused, IsPartial, mark, longest}
 use Rattle.n41_link.specs.declared.mark.Front.{Front}
 use Rattle.n41_link.specs.declared.mark.Front.TheVariants.{Record, Wants, Unlawful}
-use Rattle.n41_link.specs.declared.connection.Came.{Came}
-use Rattle.n41_link.specs.declared.connection.Came.TheVariants.{Bytes as CameBytes, End as CameEnd, Quiet as CameQuiet}
 use Rattle.n41_link.specs.declared.ear.EarGot.{EarGot}
 use Rattle.n41_link.specs.declared.ear.EarGot.TheVariants.{Whole, Quiet, End}
 use Rattle.n41_link.specs.declared.ear.EarFault.{EarFault}
 use Rattle.n41_link.specs.declared.ear.EarFault.TheVariants.{Failed, Refused, NoMemory}
 
+-- bytes at whose front no record stands before there are n of them: the header is not whole, or it marks a record of so many with its header
+abbrev pub Needs : ℕ → List ℕ → Type 0
+Needs n bytes = (n ≡ 4) ⊎ ((len : ℕ) × (rest : List ℕ) × (bytes ≡ mark len ++ rest) × (len ≤ longest) × (n ≡ 4 + len))
+
 -- what stands at the front of the bytes
 abbrev pub IsFront : Front → List ℕ → Type 0
 IsFront (Record body) bytes = (rest : List ℕ) × Begins bytes body.now rest
-IsFront (Wants n) bytes = (length bytes < n) × (n ≤ 2 ^ 22) × IsPartial bytes
+IsFront (Wants n) bytes = (length bytes < n) × (n ≤ 2 ^ 22) × Needs n bytes
 IsFront Unlawful bytes = IsRefused bytes
 
 -- the same, of the bytes from a place in a log on
 abbrev pub IsFrontAt : Front → List ℕ → ℕ → Type 0
 IsFrontAt (Record body) log at = Begins (drop at log) body.now (drop (at + (4 + length body.now)) log) × (at + (4 + length body.now) ≤ length log)
-IsFrontAt (Wants n) log at = (length log < at + n) × (n ≤ 2 ^ 22) × IsPartial (drop at log)
+IsFrontAt (Wants n) log at = (length log < at + n) × (n ≤ 2 ^ 22) × Needs n (drop at log)
 IsFrontAt Unlawful log at = IsRefused (drop at log)
 
 -- A record that was heard is the one at the place before, and the place moves behind it. Else the place stays: it was quiet, ended or failed where no whole record stood, and was refused where a header there begins none.
@@ -52,3 +54,10 @@ got_end (Ok (Whole body)) = false
 got_end (Ok Quiet) = false
 got_end (Ok End) = true
 got_end (Err e) = false
+
+-- the inflow's failure was the cause
+abbrev pub failed_to_hear : Result EarGot EarFault → Bool
+failed_to_hear (Ok got) = false
+failed_to_hear (Err Failed) = true
+failed_to_hear (Err Refused) = false
+failed_to_hear (Err NoMemory) = false

@@ -1,32 +1,33 @@
--- What one read adds to an ear's log. (own)
-use Rattle.std.specs.Prelude.{◌≡◌, ◌<◌, ◌+◌, ℕ, Bool, true, false, Result, Ok, Err}
-use Rattle.n41_link.specs.declared.connection.Came.{Came}
-use Rattle.n41_link.specs.declared.connection.Came.TheVariants.{Bytes, End, Quiet}
-use Rattle.n41_link.specs.declared.ear.EarFault.{EarFault}
-use Rattle.n41_link.specs.declared.ear.EarFault.TheVariants.{Failed, Refused, NoMemory}
+-- What reading adds to an ear's log. (own)
+use Rattle.std.specs.Prelude.{◌≡◌, ◌<◌, ℕ, Bool, true, false}
+use Rattle.n41_link.specs.declared.ear.Reading.{Reading}
+use Rattle.n41_link.specs.declared.ear.Reading.TheVariants.{Enough, Quiet, End, Failed, NoMemory}
 
 -- the length of the log before and after a read
-abbrev pub CameTo : Result Came EarFault → ℕ → ℕ → Type 0
-CameTo (Ok (Bytes n)) before now = (now ≡ before + n) × (0 < n)
-CameTo (Ok End) before now = now ≡ before
-CameTo (Ok Quiet) before now = now ≡ before
-CameTo (Err e) before now = now ≡ before
+abbrev pub GrowsAt : Reading → ℕ → ℕ → Type 0
+GrowsAt Enough before now = before < now
+GrowsAt Quiet before now = now ≡ before
+GrowsAt End before now = now ≡ before
+GrowsAt Failed before now = now ≡ before
+GrowsAt NoMemory before now = now ≡ before
 
-abbrev pub came_quiet : Result Came EarFault → Bool
-came_quiet (Ok (Bytes n)) = false
-came_quiet (Ok End) = false
-came_quiet (Ok Quiet) = true
-came_quiet (Err e) = false
+abbrev pub was_quiet : Reading → Bool
+was_quiet Enough = false
+was_quiet Quiet = true
+was_quiet End = false
+was_quiet Failed = false
+was_quiet NoMemory = false
 
-abbrev pub came_end : Result Came EarFault → Bool
-came_end (Ok (Bytes n)) = false
-came_end (Ok End) = true
-came_end (Ok Quiet) = false
-came_end (Err e) = false
+abbrev pub was_end : Reading → Bool
+was_end Enough = false
+was_end Quiet = false
+was_end End = true
+was_end Failed = false
+was_end NoMemory = false
 
--- the inflow's failure was the cause
-abbrev pub failed_by : {T : Type 0} → Result T EarFault → Bool
-failed_by (Ok x) = false
-failed_by (Err Failed) = true
-failed_by (Err Refused) = false
-failed_by (Err NoMemory) = false
+abbrev pub was_failed : Reading → Bool
+was_failed Enough = false
+was_failed Quiet = false
+was_failed End = false
+was_failed Failed = true
+was_failed NoMemory = false

@@ -15,7 +15,7 @@ pub use connection::{Came, Dialer, Inflow, Listener, Outflow};
 pub use ear::{Ear, EarFault, EarGot};
 pub use machine::MachineClock;
 pub use moments::Clock;
-pub use mouth::SayFault;
+pub use mouth::{Mouth, SayFault};
 pub use standard::{Input, Output};
 pub use stream::{Failed, Sink, Source};
 pub use tcp::{TcpDialer, TcpHouse, TcpInflow, TcpOutflow};
