@@ -3,3 +3,5 @@ pub mod Forms
 pub mod Lengths
 pub mod ReplyLawful
 pub mod Growing
+pub mod Asking
+pub mod Hearing
