@@ -1,5 +1,5 @@
 -- What was written of the request, and when the wait for a record is over.
-use Rattle.std.proofs.Common.{◌≡◌, ◌≤◌, ◌<◌, ◌+◌, ◌-◌, ◌*◌, ◌^◌, inl, inr, subst, ◌∙◌, ap, sym, refl, arith, ℕ, List, [], ◌++◌, take, drop, length, true}
+use Rattle.std.proofs.Common.{◌≡◌, ◌≤◌, ◌<◌, ◌+◌, ◌-◌, ◌*◌, ◌^◌, inl, inr, subst, eq-or-lt_of_le, ◌∙◌, ap, sym, refl, arith, ℕ, List, [], ◌++◌, take, drop, length, true}
 use Rattle.std.proofs.lemmas.List.{take-append-drop, length-append}
 use Rattle.n41_xdr.specs.Spelling.{word}
 use Rattle.n41_link.specs.Marks.{marked, mark, longest, IsPartial}
@@ -35,7 +35,11 @@ pub wait_shrinks : (old new more : List ℕ) (before now : ℕ) → new ≡ old 
     → (2 ^ 22 - length new) * 60 + (60 - now) < (2 ^ 22 - length old) * 60 + (60 - before)
 wait_shrinks old new more before now grows partial stills patient =
     let few : length new < 2 ^ 22 = partial_length new partial in
-    omega (arith, ap length grows, length-append old more, stills.silent, stills.heard)
+    let longer_or_same : length old ≤ length new = omega (arith, ap length grows, length-append old more) in
+    elim (eq-or-lt_of_le longer_or_same) [
+      | inl same ↦ let still = stills.silent (sym same) in omega arith
+      | inr longer ↦ let still = stills.heard longer in omega arith
+    ]
 
 pub partial_from : (at : ℕ) (log : List ℕ) → at ≡ 0 → IsPartial (drop at log) → IsPartial log
 partial_from at log e partial = subst (λ (n : ℕ). IsPartial (drop n log)) e partial

@@ -3,6 +3,7 @@ use Rattle.std.specs.Prelude.{◌≡◌, ◌<◌, ◌≤◌, ◌⊎◌, ℕ, Lis
 use Rattle.std.specs.declared.option.Option.{Option}
 use Rattle.std.specs.Fmt.{decimal}
 use Rattle.n41_link.specs.Marks.{IsRefused}
+use Rattle.n41_run.specs.Words.{IsFirstBad}
 use Rattle.n41_run.specs.declared.fault.RunFault.{RunFault}
 use Rattle.n41_run.specs.declared.fault.RunFault.TheVariants.{Words, ReadFault, WriteFault, Unreachable, Breach, NoMemory}
 
@@ -42,6 +43,16 @@ IsOfProbe (Some WriteFault) = Unit {0}
 IsOfProbe (Some (Unreachable rounds)) = rounds ≡ 1
 IsOfProbe (Some (Breach event)) = event ≡ 0
 IsOfProbe (Some NoMemory) = Unit {0}
+
+-- the faults that a run for these words may have
+abbrev pub IsOfRun : List (List ℕ) → Option RunFault → Type 0
+IsOfRun words None = Unit {0}
+IsOfRun words (Some (Words place)) = IsFirstBad words place
+IsOfRun words (Some ReadFault) = ⊥
+IsOfRun words (Some WriteFault) = Unit {0}
+IsOfRun words (Some (Unreachable rounds)) = rounds ≡ 1
+IsOfRun words (Some (Breach event)) = event ≡ 0
+IsOfRun words (Some NoMemory) = Unit {0}
 
 -- Why no record came: what was read from failed or ended, what came begins no record, or nothing came for 60 turns.
 abbrev pub IsCut : ℕ → ℕ → List ℕ → ℕ → Type 0

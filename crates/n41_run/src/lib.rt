@@ -5,11 +5,13 @@ mod exchange;
 mod fault;
 mod line;
 mod probing;
+mod running;
 mod sinking;
 mod talk;
 mod words;
 
 pub use fault::RunFault;
 pub use probing::probe;
+pub use running::{Finish, run};
 pub use talk::Talk;
 pub use words::{Command, command_of};

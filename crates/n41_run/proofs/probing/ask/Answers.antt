@@ -7,8 +7,10 @@ returns-in_default-clause-begun g c = nothing_asked c.args.moment _ _ c.requires
 
 pub returns-in-Err-Failed-clause-begun : goal.returns-in-Err-Failed-clause-begun
 returns-in-Err-Failed-clause-begun g c =
-    let said = c.in-Err-Failed.ensures.says c.requires.fault in
+    let said = rw c.in-Err-Failed.field-0-is at (c.in-Err-Failed.ensures.says c.requires.fault) in
     partly_asked c.args.moment said.0 _ _ c.deref.result.now c.requires.log (c.deref.ensures.value ∙ c.in-Ok.ensures.spelled) said.2
 
 pub returns-clause-begun : goal.returns-clause-begun
-returns-clause-begun g c = nothing_asked c.args.moment _ _ c.requires.log (c.in-Err-NoMemory.ensures.says c.requires.fault)
+returns-clause-begun g c = 
+    let said = rw c.in-Err-NoMemory.field-0-is at (c.in-Err-NoMemory.ensures.says c.requires.fault) in
+    nothing_asked c.args.moment _ _ c.requires.log said

@@ -7,4 +7,6 @@ pub loop-ear-smaller : goal.loop-ear-smaller
 loop-ear-smaller g c =
     let said = c.in-Ok-Quiet.ensures in
     let fault = c.loop-ear.invariant.fault in
-    wait_shrinks _ _ said.grows.0 _ _ said.grows.1 (partial_from _ _ c.loop-ear.invariant.place (said.hears fault).1) (said.stills fault) (omega (arith, c.still.ensures.still, c.loop-ear-test.true))
+    let hears = rw c.in-Ok-Quiet.field-0-is at (said.hears fault) in
+    let stills = rw c.in-Ok-Quiet.field-0-is at (said.stills fault) in
+    wait_shrinks _ _ said.grows.0 _ _ said.grows.1 (partial_from _ _ c.loop-ear.invariant.place hears.1) stills (omega (arith, c.still.ensures.still, c.loop-ear-test.true))
