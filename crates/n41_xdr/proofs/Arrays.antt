@@ -1,5 +1,5 @@
 -- Arrays and optional data of lawful elements are lawful.
-use Rattle.std.proofs.Common.{◌≡◌, ℕ, zero, suc, ◌<◌, ◌^◌, Bool, true, false, List, [], ◌∷◌, ◌++◌, length, Option, Some, None, Result, Ok, refl, sym, ap, subst, ◌∙◌, append_assoc, arith}
+use Rattle.std.proofs.Common.{◌≡◌, ℕ, zero, suc, Bool, true, false, List, [], ◌∷◌, ◌++◌, length, Option, Some, None, Ok, refl, sym, ap, subst, ◌∙◌, append_assoc, arith}
 use Rattle.std.specs.Prelude.{IfSome, IsSomeAnd}
 use Rattle.std.specs.List.{flat_map, AllByRecursion}
 use Rattle.std.proofs.lemmas.List.{append-nil}
@@ -11,8 +11,8 @@ use Rattle.n41_xdr.specs.Reading.{◌>>=◌}
 use Rattle.n41_xdr.specs.Format.{Format, word, flag, given, dependent, choice, lifted, many_at, many, list, option, optional, optional_text}
 use Rattle.n41_xdr.specs.Lawful.{IsBytes, Takes, IsLawful}
 use Rattle.n41_xdr.proofs.Steps.{bind_ok, Takes-then}
-use Rattle.n41_xdr.proofs.Combined.{IsSame, same_lawful, given_lawful, lifted_lawful, dependent_lawful, choice_lawful}
-use Rattle.n41_xdr.proofs.Basic.{word_lawful, flag_lawful, match_cases, by_number, by_number_lawful}
+use Rattle.n41_xdr.proofs.Combined.{same_lawful, given_lawful, lifted_lawful, dependent_lawful, choice_lawful}
+use Rattle.n41_xdr.proofs.Basic.{word_lawful, flag_lawful, by_number, by_number_lawful}
 
 -- ---- arrays
 

@@ -1,5 +1,5 @@
 -- The formats of the basic types are lawful.
-use Rattle.std.proofs.Common.{◌≡◌, ℕ, zero, suc, ◌+◌, ◌^◌, ◌<◌, ◌≤◌, Bool, true, false, cond, ltb, eqb, List, [], ◌∷◌, ◌++◌, length, take, drop, replicate, Result, Ok, Err, refl, sym, ap, subst, ◌∙◌, append_assoc, arith, inl, inr, ◌⊎◌}
+use Rattle.std.proofs.Common.{◌≡◌, ℕ, zero, suc, ◌+◌, ◌^◌, ◌<◌, ◌≤◌, Bool, true, false, cond, ltb, eqb, List, [], ◌∷◌, ◌++◌, length, take, drop, replicate, Ok, Err, refl, sym, ap, subst, ◌∙◌, arith, inl, inr, ◌⊎◌}
 use Rattle.std.specs.Bool.{MatchBool}
 use Rattle.std.specs.Int.{Width, w32, w64, byte_len, from_be_bytes, to_be_bytes}
 use Rattle.std.proofs.lemmas.Bool.{ltb-false, le-ltb, eqb-true, eq-eqb, and_parts}
@@ -9,11 +9,11 @@ use Rattle.n41_xdr.specs.declared.fault.XdrFault.{XdrFault}
 use Rattle.n41_xdr.specs.declared.fault.XdrFault.TheVariants.{Short, BadBool, BadPad, TooLong, BadArm}
 use Rattle.n41_xdr.specs.Spelling as spelling
 use Rattle.n41_xdr.specs.Spelling.{fill, fill_len}
-use Rattle.n41_xdr.specs.Reading.{◌>>=◌, taken_at, number_at, boolean_at, fixed_at, opaque_at, all_zero}
+use Rattle.n41_xdr.specs.Reading.{taken_at, number_at, boolean_at, fixed_at, opaque_at, all_zero}
 use Rattle.n41_xdr.specs.Format.{Format, word, hyper, flag, fixed, opaque, given, nothing, refused, dependent, choice, only}
 use Rattle.n41_xdr.specs.Lawful.{IsBytes, Takes, IsLawful}
 use Rattle.n41_xdr.proofs.Steps.{IsBytes-drop, IsBytes-take, bind_ok, guard_ok, chosen}
-use Rattle.n41_xdr.proofs.Combined.{IsSame, same_lawful, given_lawful, nothing_lawful, refused_lawful, dependent_lawful, choice_lawful}
+use Rattle.n41_xdr.proofs.Combined.{same_lawful, given_lawful, nothing_lawful, refused_lawful, dependent_lawful, choice_lawful}
 
 -- ---- n bytes
 
@@ -200,10 +200,10 @@ pub fixed_lawful : (n : ℕ) → IsLawful (fixed n)
 fixed_lawful n = record { takes = fixed_takes n; again = fixed_again n }
 
 -- a fault where the test holds
-abbrev unless : {E A : Type 0} → Bool → E → Format E A → Format E A
+abbrev pub unless : {E A : Type 0} → Bool → E → Format E A → Format E A
 unless b e p = record { read = λ bytes. cond b (Err e) (p.read bytes); spell = p.spell; Fits = λ a. (b ≡ false) × p.Fits a }
 
-unless_lawful : {E A : Type 0} (b : Bool) (e : E) (p : Format E A) → IsLawful p → IsLawful (unless b e p)
+pub unless_lawful : {E A : Type 0} (b : Bool) (e : E) (p : Format E A) → IsLawful p → IsLawful (unless b e p)
 unless_lawful b e p h = record {
   takes = λ bytes x fits is.
       let g = guard_ok b e (p.read bytes) x is in

@@ -1,8 +1,8 @@
 -- What is made of lawful formats is lawful.
-use Rattle.std.proofs.Common.{◌≡◌, ℕ, Bool, true, false, List, [], ◌++◌, Option, Some, None, Result, Ok, Err, refl, sym, ap, subst, ◌∙◌, append_assoc}
+use Rattle.std.proofs.Common.{◌≡◌, ℕ, Bool, true, false, List, [], ◌++◌, Result, Ok, refl, sym, ap, subst, ◌∙◌, append_assoc}
 use Rattle.n41_xdr.specs.Reading.{◌>>=◌}
 use Rattle.n41_xdr.specs.Format.{Format, given, nothing, refused, ◌&◌, dependent, choice, mapped, fault_as, lifted}
-use Rattle.n41_xdr.specs.Lawful.{IsBytes, Takes, IsLawful, BeginsNoOther}
+use Rattle.n41_xdr.specs.Lawful.{Takes, IsLawful, BeginsNoOther}
 use Rattle.n41_xdr.proofs.Steps.{bind_ok, fault_as_ok, Takes-then}
 
 -- two ways to write one format

@@ -5,3 +5,4 @@ pub mod Arrays
 pub mod Unions
 pub mod Chains
 pub mod Loop
+pub mod Lawful

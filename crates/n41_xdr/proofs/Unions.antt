@@ -6,7 +6,7 @@ use Rattle.n41_xdr.specs.declared.fault.XdrFault.{XdrFault}
 use Rattle.n41_xdr.specs.Format.{Format, word, dependent, lifted, made, choose, Arm, arm, union}
 use Rattle.n41_xdr.specs.Lawful.{IsBytes, Takes, IsLawful, RowIsLawful}
 use Rattle.n41_xdr.proofs.Steps.{bind_ok, chosen}
-use Rattle.n41_xdr.proofs.Combined.{IsSame, same_lawful, lifted_lawful, dependent_lawful}
+use Rattle.n41_xdr.proofs.Combined.{same_lawful, lifted_lawful, dependent_lawful}
 use Rattle.n41_xdr.proofs.Basic.{word_lawful}
 
 pub row_lawful : {E A B : Type 0} (arm_of : A → Arm) (n : ℕ) (to : B → A) (p : Format E B) → ((b : B) → arm_of (to b) ≡ arm n p b) → IsLawful p → RowIsLawful arm_of (n, made to p)

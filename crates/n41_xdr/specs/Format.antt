@@ -1,6 +1,6 @@
 -- A format says how the values of one type are read from the front of bytes, how they are spelled, and which of them have a spelling.
 -- Formats are combined, so that a message is the list of its parts, as in the tables of its RFC.
-use Rattle.std.specs.Prelude.{◌≡◌, ℕ, ◌<◌, ◌≤◌, ◌^◌, ◌==◌, zero, suc, List, [], ◌∷◌, ◌++◌, length, Bool, true, false, Result, Ok, Err, nat_lt, if◌then◌else◌, Option, Some, None, IfSome}
+use Rattle.std.specs.Prelude.{◌≡◌, ℕ, ◌<◌, ◌≤◌, ◌^◌, ◌==◌, zero, suc, List, [], ◌∷◌, ◌++◌, length, Bool, true, false, Result, Ok, Err, if◌then◌else◌, Option, Some, None, IfSome}
 use Rattle.std.specs.Bool.{MatchBool}
 use Rattle.std.specs.List.{flat_map, AllByRecursion}
 use Rattle.std.specs.Int.{w32, w64}
@@ -141,7 +141,7 @@ abbrev pub chain_next : {E A : Type 0} → Option A → List ℕ → (List ℕ �
 chain_next None bytes others = Ok ([], bytes)
 chain_next (Some x) bytes others = others bytes >>= λ y. Ok (x ∷ y.0, y.1)
 
--- n is more than the elements can be, since each takes a byte at least
+-- n is more than the elements can be, since each takes the four bytes of its bool at least
 abbrev pub chain_at : {E A : Type 0} → (XdrFault → E) → Format E A → ℕ → List ℕ → Result (List A × List ℕ) E
 chain_at f p zero bytes = Err (f (Short 4 0))
 chain_at f p (suc n) bytes = (optional f p).read bytes >>= λ m. chain_next m.0 m.1 (chain_at f p n)

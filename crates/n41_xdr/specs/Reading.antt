@@ -1,6 +1,6 @@
 -- Reading from left to right: a value and the bytes behind it, or the first fault that is met.
 use Rattle.std.specs.Prelude.{◌≡◌, ℕ, ◌+◌, List, [], ◌∷◌, length, take, drop, Bool, true, false, Result, Ok, Err, nat_lt, ◌==◌, ◌&&◌, if◌then◌else◌}
-use Rattle.std.specs.Int.{Width, w32, w64, byte_len, from_be_bytes}
+use Rattle.std.specs.Int.{Width, w32, byte_len, from_be_bytes}
 use Rattle.n41_xdr.specs.declared.fault.XdrFault.{XdrFault}
 use Rattle.n41_xdr.specs.declared.fault.XdrFault.TheVariants.{Short, BadBool, BadPad, TooLong}
 use Rattle.n41_xdr.specs.Spelling.{fill_len}

@@ -10,8 +10,7 @@ pub fn what_is_written_is_read()
     ensures flags { IsLawful flag }
     ensures fixed_data { (n : ℕ) → IsLawful (fixed n) }
     ensures variable_data { (max : ℕ) → IsLawful (opaque max) }
-{
-}
+{}
 
 /// A law of the writers: where two spellings of one type begin the same bytes, they are of one value, and the same bytes
 /// follow them.
@@ -21,5 +20,4 @@ pub fn no_spelling_begins_another()
     ensures flags { BeginsNoOther flag }
     ensures fixed_data { (n : ℕ) → BeginsNoOther (fixed n) }
     ensures variable_data { (max : ℕ) → BeginsNoOther (opaque max) }
-{
-}
+{}

@@ -2,6 +2,7 @@
 #![tactic(auto)]
 
 mod fault;
+mod fill;
 mod laws;
 mod reader;
 mod writer;
@@ -10,3 +11,6 @@ pub use fault::XdrFault;
 pub use laws::{no_spelling_begins_another, what_is_written_is_read};
 pub use reader::Reader;
 pub use writer::Writer;
+
+#[cfg(test)]
+mod tests;

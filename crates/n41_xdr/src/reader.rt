@@ -1,16 +1,16 @@
 ghost use Rattle.std.specs.Prelude.{◌≡◌, ◌<◌, ◌≤◌, ◌^◌, ◌↔◌, [], List, ℕ, length, IsTrue, IsOk, IfOk, OnErr, Ok, Err};
 ghost use Rattle.std.specs.Int.{w32, w64};
-ghost use Rattle.n41_xdr.specs.Spelling.{fill_len};
 ghost use Rattle.n41_xdr.specs.Reading.{Reads, taken_at, number_at, boolean_at, fixed_at, opaque_at, all_zero};
 ghost use Rattle.n41_xdr.specs.Lawful.{IsBytes};
 
 use crate::fault::XdrFault;
+use crate::fill::fill_len;
 use std::marker::Model;
 
 /// Reads the basic types of XDR (RFC 4506) from left to right, with no memory of its own. Its value is the list of bytes that are left.
 ///
 /// A call that answers a fault leaves these bytes as they were.
-#[derive(Drop)]
+#[derive(Debug, Drop)]
 pub struct Reader<'a> {
     rest: &'a [u8],
 }
@@ -21,13 +21,6 @@ impl<'a> Model for Reader<'a> {
     ghost Value = { List ℕ };
 
     ghost view = { λ r. r.rest.now };
-}
-
-/// How many bytes fill `len` bytes to a multiple of four.
-fn fill_len(len: usize) -> usize
-    ensures { result ≡ fill_len len }
-{
-    (4 - len % 4) % 4
 }
 
 fn all_zero(bytes: &[u8]) -> bool

@@ -1,13 +1,14 @@
 ghost use Rattle.std.specs.Prelude.{◌≡◌, ◌++◌, ◌<◌, ◌^◌, ◌↔◌, [], List, ℕ, length, IsTrue, OnOk, OnErr};
 ghost use Rattle.n41_xdr.specs.Spelling.{word, hyper, boolean, fixed, opaque, fill};
 
+use crate::fill::fill_len;
 use std::alloc::{AllocError, Global};
 use std::marker::Model;
 
 /// Writes the basic types of XDR (RFC 4506) from left to right. Its value is the list of bytes so far.
 ///
 /// A `put` is refused for want of memory alone, and then leaves these bytes as they were.
-#[derive(Drop)]
+#[derive(Debug, Drop)]
 pub struct Writer {
     bytes: Vec<u8>,
 }
@@ -114,7 +115,7 @@ impl Writer {
         let zeros = [0, 0, 0];
         let filled = self
             .bytes
-            .extend_from_slice(&zeros[..(4 - bytes.len() % 4) % 4]);
+            .extend_from_slice(&zeros[..fill_len(bytes.len())]);
         if filled.is_err() {
             self.bytes.truncate(start);
         }
