@@ -15,3 +15,6 @@ pub use probing::probe;
 pub use running::{Finish, run};
 pub use talk::Talk;
 pub use words::{Command, command_of};
+
+#[cfg(test)]
+mod tests;

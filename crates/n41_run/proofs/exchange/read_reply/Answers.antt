@@ -13,9 +13,9 @@ returns-in_err-finish-clause-none c =
 pub returns-clause-ok : goal.returns-clause-ok
 returns-clause-ok c =
     read_is_reply _ c.args.bytes.now c.new-reader.ensures.bytes
-      (whole_read _ c.args.bytes.now c.new-reader.result c.read_parts.new.reader c.new-reader.ensures.left (c.in_ok-finish.ensures.ok.0 refl) c.in_ok-exchanged.ensures)
+    (whole_read _ c.args.bytes.now c.new-reader.result c.read_parts.new.reader c.new-reader.ensures.left (c.in_ok-finish.ensures.ok.0 refl) c.in_ok-exchanged.ensures)
 
 pub returns-clause-alone : goal.returns-clause-alone
 returns-clause-alone c = λ y h.
     same_reply _ y c.args.bytes.now
-      (whole_read _ c.args.bytes.now c.new-reader.result c.read_parts.new.reader c.new-reader.ensures.left (c.in_ok-finish.ensures.ok.0 refl) c.in_ok-exchanged.ensures) h
+    (whole_read _ c.args.bytes.now c.new-reader.result c.read_parts.new.reader c.new-reader.ensures.left (c.in_ok-finish.ensures.ok.0 refl) c.in_ok-exchanged.ensures) h

@@ -11,6 +11,6 @@ returns-in-Err-Failed-clause-begun g c =
     partly_asked c.args.moment said.0 _ _ c.deref.result.now c.requires.log (c.deref.ensures.value ∙ c.in-Ok.ensures.spelled) said.2
 
 pub returns-clause-begun : goal.returns-clause-begun
-returns-clause-begun g c = 
+returns-clause-begun g c =
     let said = rw c.in-Err-NoMemory.field-0-is at (c.in-Err-NoMemory.ensures.says c.requires.fault) in
     nothing_asked c.args.moment _ _ c.requires.log said

@@ -11,7 +11,7 @@ returns-in_default-clause-bad c =
 pub returns-then-not-is_probe-clause-bad : goal.returns-then-not-is_probe-clause-bad
 returns-then-not-is_probe-clause-bad c =
     bad_at _ _ 1 (ap (map string_bytes) c.in-Some.ensures.cases.0)
-      (other_first _ _ (λ e. cc (c.is_probe.ensures.1 (c.as_str.ensures.value ∙ e), c.if-not-is_probe.true)))
+    (other_first _ _ (λ e. cc (c.is_probe.ensures.1 (c.as_str.ensures.value ∙ e), c.if-not-is_probe.true)))
 
 pub returns-in_default-split_first-clause-bad : goal.returns-in_default-split_first-clause-bad
 returns-in_default-split_first-clause-bad c =
@@ -23,22 +23,22 @@ pub returns-then-not-is_address-clause-bad : goal.returns-then-not-is_address-cl
 returns-then-not-is_address-clause-bad c =
     let first : string_bytes c.in-Some.first.now ≡ codes "probe" = sym c.as_str.ensures.value ∙ c.is_probe.ensures.0 c.if-not-is_probe.false in
     let unlawful : IsAddress (string_bytes c.in-Some-split_first.address.now) → ⊥ =
-        λ lawful. cc (c.is_address.ensures.1 (same_address _ _ c.as_str-2.ensures.value lawful), c.if-not-is_address.true) in
+    λ lawful. cc (c.is_address.ensures.1 (same_address _ _ c.as_str-2.ensures.value lawful), c.if-not-is_address.true) in
     two_bad _ _ _ _ _ 2 c.in-Some.ensures.cases.0 c.in-Some-split_first.ensures.cases.0 first (bad_address _ _ unlawful)
 
 pub returns-then-not-is_empty-clause-bad : goal.returns-then-not-is_empty-clause-bad
 returns-then-not-is_empty-clause-bad c =
     let first : string_bytes c.in-Some.first.now ≡ codes "probe" = sym c.as_str.ensures.value ∙ c.is_probe.ensures.0 c.if-not-is_probe.false in
     let lawful : IsAddress (string_bytes c.in-Some-split_first.address.now) =
-        same_address _ _ (sym c.as_str-2.ensures.value) (c.is_address.ensures.0 c.if-not-is_address.false) in
+    same_address _ _ (sym c.as_str-2.ensures.value) (c.is_address.ensures.0 c.if-not-is_address.false) in
     two_bad _ _ _ _ _ 3 c.in-Some.ensures.cases.0 c.in-Some-split_first.ensures.cases.0 first
-      (more_bad (string_bytes c.in-Some-split_first.address.now) c.in-Some-split_first.more.now lawful (grind (arith, nat_tests)))
+    (more_bad (string_bytes c.in-Some-split_first.address.now) c.in-Some-split_first.more.now lawful (grind (arith, nat_tests)))
 
 pub returns-clause-probe : goal.returns-clause-probe
 returns-clause-probe c =
     let first : string_bytes c.in-Some.first.now ≡ codes "probe" = sym c.as_str.ensures.value ∙ c.is_probe.ensures.0 c.if-not-is_probe.false in
     let lawful : IsAddress c.as_str-3.result.now =
-        same_address _ _ (c.as_str-3.ensures.value ∙ sym c.as_str-2.ensures.value) (c.is_address.ensures.0 c.if-not-is_address.false) in
+    same_address _ _ (c.as_str-3.ensures.value ∙ sym c.as_str-2.ensures.value) (c.is_address.ensures.0 c.if-not-is_address.false) in
     let no_more : c.in-Some-split_first.more.now ≡ [] = empty_is c.in-Some-split_first.more.now (grind (arith, nat_tests)) in
     record {
       lawful = lawful;
