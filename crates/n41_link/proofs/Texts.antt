@@ -1,9 +1,8 @@
 -- What is known of bytes that were written bit by bit.
-use Rattle.std.proofs.Common.{◌≡◌, ◌≤◌, ◌+◌, ◌∙◌, ap, sym, ℕ, List, ◌++◌, length, drop, take, append_assoc, take-add, Some, None, refl, subst}
+use Rattle.std.proofs.Common.{◌≡◌, ◌+◌, ◌∙◌, ap, sym, ℕ, List, ◌++◌, length, drop, take, append_assoc, take-add, Some, None, refl}
 use Rattle.std.specs.declared.option.Option.{Option}
 use Rattle.std.specs.Io.KnownBytes.{append_known}
 use Rattle.std.proofs.Math.Seq.{drop-append_seam, take-append-add, take-length}
-use Rattle.std.proofs.lemmas.List.{take-append-drop}
 use Rattle.n41_link.specs.Flow.{KnownAs}
 
 pub known_same : (old new : Option (List ℕ)) (xs : List ℕ) → new ≡ old → KnownAs old xs → KnownAs new xs

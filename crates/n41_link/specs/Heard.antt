@@ -1,5 +1,5 @@
 -- What an ear answers, beside the bytes that it has read. (own)
-use Rattle.std.specs.Prelude.{◌≡◌, ◌⊎◌, ◌++◌, ◌<◌, ◌≤◌, ◌+◌, ◌-◌, ◌^◌, min, ℕ, Bool, true, false, List, length, drop, Option, Some, None, Result, Ok, Err}
+use Rattle.std.specs.Prelude.{◌≡◌, ◌⊎◌, ◌++◌, ◌<◌, ◌≤◌, ◌+◌, ◌-◌, ◌^◌, min, ℕ, Bool, true, false, List, length, drop, Result, Ok, Err}
 use Rattle.n41_link.specs.Marks.{Begins, IsRefused, IsPartial, mark, longest}
 use Rattle.n41_link.specs.declared.mark.Front.{Front}
 use Rattle.n41_link.specs.declared.mark.Front.TheVariants.{Record, Wants, Unlawful}

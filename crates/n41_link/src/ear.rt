@@ -143,7 +143,8 @@ impl<I: Inflow> Ear<I> {
 
     /// How many bytes it has read.
     pub fn got(&self) -> u64
-        ensures { result ≡ length (ear_log self.now) }
+        ensures log { result ≡ length (ear_log self.now) }
+        ensures place { ear_place self.now ≤ result }
     {
         self.log.len() as u64
     }

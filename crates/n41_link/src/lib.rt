@@ -19,3 +19,6 @@ pub use mouth::{Mouth, SayFault};
 pub use standard::{Input, Output};
 pub use stream::{Failed, Sink, Source};
 pub use tcp::{TcpDialer, TcpHouse, TcpInflow, TcpOutflow};
+
+#[cfg(test)]
+mod tests;

@@ -60,11 +60,7 @@ fn len_of(log: &Vec<u8>) -> usize
 }
 
 // Puts a record at the end of the log and writes it, or takes back what was not written.
-fn say_record<O: Outflow>(
-    outflow: &mut O,
-    log: &mut Vec<u8>,
-    bytes: &[u8],
-) -> Result<(), SayFault>
+fn say_record<O: Outflow>(outflow: &mut O, log: &mut Vec<u8>, bytes: &[u8]) -> Result<(), SayFault>
     requires { length bytes.now ≤ longest }
     ensures says { Says result log.old.items log.new.items bytes.now }
     ensures told { KnownAs (O.put outflow.old) log.old.items → KnownAs (O.put outflow.new) log.new.items }

@@ -193,3 +193,6 @@ impl<R: Net<Listener = TcpListener, Stream = TcpStream>> Listener for TcpHouse<R
         }
     }
 }
+
+#[cfg(test)]
+mod tests;

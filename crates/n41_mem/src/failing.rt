@@ -39,6 +39,12 @@ pub type MemDialer = Failing<Prepared<MemInflow, MemOutflow>>;
 
 pub type MemListener = Failing<Prepared<MemInflow, MemOutflow>>;
 
+fn has(numbers: &[u64], number: u64) -> bool
+    ensures { result ≡ list_any (λ n. n == number) numbers.now }
+{
+    numbers.iter().any(|n| *n == number)
+}
+
 impl Plan {
     fn new(alloc: Global, fails: &[u64]) -> Result<Plan, NoMemory>
         ensures { IfOk result (λ p. (p.fails.items ≡ fails.now) × (p.calls ≡ 0) × (p.faults ≡ 0)) }
@@ -54,12 +60,11 @@ impl Plan {
     fn begin(&mut self) -> Result<(), Failed>
         ensures calls { self.new.calls ≡ min (self.old.calls + 1) (2 ^ 64 - 1) }
         ensures fails { self.new.fails.items ≡ self.old.fails.items }
-        ensures planned { is_failed result ≡ list_any (λ n. n == min (self.old.calls + 1) (2 ^ 64 - 1)) self.old.fails.items }
+        ensures planned { is_failed result ≡ list_any (λ n. n == self.new.calls) self.new.fails.items }
         ensures cause { Counts self.old.faults self.new.faults (is_failed result) }
     {
         self.calls = self.calls.saturating_add(1);
-        let number = self.calls;
-        if self.fails.iter().any(|n| *n == number) {
+        if has(&self.fails, self.calls) {
             self.faults = self.faults.saturating_add(1);
             return Err(Failed);
         }

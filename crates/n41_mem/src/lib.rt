@@ -12,3 +12,6 @@ pub use flows::{SureInflow, SureOutflow};
 pub use prepared::{Prepared, SureDialer, SureListener};
 pub use streams::{SureSink, SureSource};
 pub use watch::MemClock;
+
+#[cfg(test)]
+mod tests;

@@ -1,5 +1,5 @@
 // A clock in memory.
-ghost use Rattle.std.specs.Prelude.{◌≡◌, ◌≤◌, ◌<◌, ◌+◌, ◌==◌, ◌-◌, ◌⊎◌, ◌++◌, ◌∷◌, [], ℕ, List, IsTrue, true, false, length, drop, Some, IfOk};
+ghost use Rattle.std.specs.Prelude.{◌≡◌, ◌≤◌, ◌<◌, ◌+◌, ◌==◌, ◌-◌, ◌⊎◌, ◌++◌, ◌∷◌, [], ℕ, List, IsTrue, true, false, length, drop, Some, IfOk, slice_index_or};
 ghost use Rattle.std.specs.Prelude.{vec_capacity};
 ghost use Rattle.std.specs.List.{list_any};
 
@@ -19,6 +19,7 @@ pub struct MemClock {
     ghost room: { length moments.items ≤ vec_capacity given },
     ghost few: { length given.items ≤ at + 1 },
     ghost fewer: { told ≡ false → length given.items ≤ at },
+    ghost reached: { told ≡ true → slice_index_or moments.items at 0 ≤ last },
     ghost marked: { told ≡ true → IsTrue (list_any (λ x. x == last) given.items) },
 }
 

@@ -10,7 +10,8 @@ pub returns-then-rest-len : goal.returns-then-rest-len
 returns-then-rest-len c = (
   omega (arith, ap length c.header_of-header.ensures, length-append (word c.header_of-header.result.0) c.header_of-header.result.1.now, length-word c.header_of-header.result.0, c.if-rest-len.true),
   omega (arith, c.in-Some.ensures.some.1),
-  inr (c.in-Some.len, c.header_of-header.result.1.now, c.header_of-header.ensures ∙ ap (λ k. word k ++ c.header_of-header.result.1.now) c.in-Some.ensures.some.0, c.in-Some.ensures.some.1, refl))
+  inr (c.in-Some.len, c.header_of-header.result.1.now, c.header_of-header.ensures ∙ ap (λ k. word k ++ c.header_of-header.result.1.now) c.in-Some.ensures.some.0, c.in-Some.ensures.some.1, refl),
+)
 
 pub returns : goal.returns
 returns c = begins _ c.header_of-header.result.1.now _ _ _ c.header_of-header.ensures c.in-Some.ensures.some.0 c.in-Some.ensures.some.1 c.split_at.ensures.front c.split_at.ensures.front_len

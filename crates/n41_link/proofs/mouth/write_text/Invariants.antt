@@ -1,4 +1,4 @@
-use Rattle.std.proofs.Common.{◌≡◌, ◌≤◌, ◌++◌, List, ℕ, take, length, ◌-◌}
+use Rattle.std.proofs.Common.{◌≤◌, ◌++◌, List, ℕ, take, length, ◌-◌}
 use Rattle.n41_link.specs.Flow.{KnownAs}
 use Rattle.n41_link.proofs.mouth.write_text.Given as goal
 

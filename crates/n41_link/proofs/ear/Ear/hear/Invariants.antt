@@ -1,4 +1,4 @@
-use Rattle.std.proofs.Common.{◌≡◌, ◌≤◌, ◌++◌, List, ℕ, length, ◌-◌, ◌+◌, ◌^◌, ◌<◌, false}
+use Rattle.std.proofs.Common.{◌≡◌, ◌≤◌, ◌++◌, List, ℕ, length, ◌-◌, ◌+◌, ◌^◌, false}
 use Rattle.n41_link.specs.Heard.{Stills}
 use Rattle.n41_link.proofs.ear.Ear.hear.Given as goal
 
