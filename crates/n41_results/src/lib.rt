@@ -7,6 +7,7 @@ mod openings;
 mod replies;
 mod results;
 mod sessions;
+mod shapes;
 #[cfg(test)]
 mod tests;
 
@@ -21,4 +22,5 @@ pub use results::{
     Content, Created, Entries, Entry, Listing, LockDenied, LockRefusal, LockType, Renamed, Res,
     Statuses, Written,
 };
+pub use shapes::Shape;
 pub use sessions::{Bound, Channel, Identity, ImplId, Sequenced, SessionMade};

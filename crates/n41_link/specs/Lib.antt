@@ -1,0 +1,9 @@
+pub mod Counts
+pub mod Ends
+pub mod Flow
+pub mod Heard
+pub mod Links
+pub mod Marks
+pub mod Moments
+pub mod Reads
+pub mod Said

@@ -1,0 +1,61 @@
+-- Why a command is answered so (own).
+use Rattle.std.specs.Prelude.{◌≡◌, ◌≢◌, ℕ, suc, ◌+◌, ◌≤◌, ◌==◌, Bool, true, false, ◌||◌, ◌⊎◌, List, [], ◌∷◌, length, Option, Some, None, if◌then◌else◌, IsTrue}
+use Rattle.n41_types.specs.declared.commands.Answer.{Answer}
+use Rattle.n41_types.specs.declared.commands.Answer.TheVariants as answer
+use Rattle.n41_types.specs.declared.plans.Class.TheVariants.{Changing}
+use Rattle.n41_types.specs.declared.plans.Request.{Request}
+use Rattle.n41_results.specs.declared.replies.Reply.{Reply}
+use Rattle.n41_types.specs.Plans.{class_of}
+use Rattle.n41_journal.specs.declared.events.Event.{Event}
+use Rattle.n41_journal.specs.declared.events.Event.TheVariants.{Took}
+use Rattle.n41_model.specs.declared.words.Verdict.{Verdict}
+use Rattle.n41_model.specs.declared.words.BareVerdict.{BareVerdict}
+use Rattle.n41_model.specs.Replies.{is_breach, is_bare_breach}
+use Rattle.n41_model.specs.Requests.{out, doubt, rounds, verdict, bare_verdict}
+use Rattle.n41_model.specs.Calls.{call, owner}
+
+abbrev pub breaks : Option Verdict → Option BareVerdict → Bool
+breaks (Some w) x = is_breach w
+breaks None (Some x) = is_bare_breach x
+breaks None None = false
+
+abbrev pub place_or : Option ℕ → Option ℕ → Option ℕ
+place_or (Some p) o = Some p
+place_or None o = o
+
+-- the place of the first reply that no server gives which keeps the rules
+abbrev pub breach_at : List Event → Option ℕ
+breach_at [] = None
+breach_at (Took c p y ∷ js) = place_or (breach_at js) (if breaks (verdict js y) (bare_verdict js y) then Some (suc (length js)) else None)
+breach_at (e ∷ js) = breach_at js
+
+-- so many rounds in a row without a reply end a run
+abbrev pub round_limit : ℕ
+round_limit = 16
+
+-- A changing request of the command was put, it has no final reply, a connection of it broke while it was unanswered, and the run
+-- ended without another reply: whether it took effect is not known.
+pub record UnknownCause (n : ℕ) (js : List Event) (c : ℕ) : Type 0 where
+  pub slot : ℕ
+  pub request : Request
+  pub is_out : out js slot ≡ Some request
+  pub own : owner n js slot ≡ Some c
+  pub changing : class_of request.plan ≡ Changing
+  pub broke : doubt js slot ≡ true
+  pub ended : round_limit ≤ rounds js
+
+-- No reply came in the last rounds, and no changing request of the command is in doubt.
+pub record UnreachableCause (n : ℕ) (js : List Event) (c : ℕ) (k : ℕ) : Type 0 where
+  pub count : k ≡ round_limit
+  pub ended : round_limit ≤ rounds js
+  pub certain : UnknownCause n js c → ⊥
+
+-- the cause of an answer to the unanswered command of a caller
+abbrev pub HasCause : ℕ → List Event → ℕ → Answer → Type 0
+HasCause n js c (answer.Done x) = (call n js c).earned ≡ Some (answer.Done x)
+HasCause n js c (answer.Refused s) = (call n js c).earned ≡ Some (answer.Refused s)
+HasCause n js c answer.Unknown = UnknownCause n js c
+HasCause n js c (answer.StateLost s) = ⊥
+HasCause n js c (answer.Unreachable k) = UnreachableCause n js c k
+HasCause n js c answer.NotOpen = ⊥
+HasCause n js c (answer.Breach p) = breach_at js ≡ Some p

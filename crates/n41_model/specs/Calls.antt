@@ -1,0 +1,205 @@
+-- What a journal says of commands, and whose each request is.
+use Rattle.std.specs.Prelude.{ℕ, zero, suc, ◌+◌, ◌==◌, Bool, true, false, ◌&&◌, ◌||◌, not, List, [], ◌∷◌, length, Option, Some, None, Result, Ok, Err, if◌then◌else◌, nat_le, nat_lt, is_none, is_some}
+use Rattle.n41_types.specs.declared.attributes.Attrs.{Attrs}
+use Rattle.n41_types.specs.declared.commands.Answer.{Answer}
+use Rattle.n41_types.specs.declared.commands.Answer.TheVariants as says
+use Rattle.n41_types.specs.declared.commands.Command.{Command}
+use Rattle.n41_types.specs.declared.commands.Command.TheVariants as asks
+use Rattle.n41_types.specs.declared.commands.Value.{Value}
+use Rattle.n41_types.specs.declared.commands.Value.TheVariants as value
+use Rattle.n41_types.specs.declared.plans.Place.TheVariants.{Root}
+use Rattle.n41_types.specs.declared.plans.Plan.{Plan}
+use Rattle.n41_types.specs.declared.plans.Plan.TheVariants as plan
+use Rattle.n41_types.specs.declared.plans.Request.{Request}
+use Rattle.n41_results.specs.declared.replies.Reply.{Reply}
+use Rattle.n41_results.specs.declared.replies.ReplyBody.{ReplyBody}
+use Rattle.n41_results.specs.declared.replies.ReplyBody.TheVariants.{Results}
+use Rattle.n41_results.specs.declared.results.Res.{Res}
+use Rattle.n41_results.specs.declared.results.Res.TheVariants as res
+use Rattle.n41_types.specs.declared.statuses.Status.{Status}
+use Rattle.n41_types.specs.contracts.plans.PlanPartialEq.TheImpl as plans
+use Rattle.n41_journal.specs.declared.events.Event.{Event}
+use Rattle.n41_journal.specs.declared.events.Event.TheVariants.{Began, Put, Took, Answered}
+use Rattle.n41_model.specs.declared.words.Phase.{Phase}
+use Rattle.n41_model.specs.declared.words.Phase.TheVariants.{Running}
+use Rattle.n41_model.specs.declared.words.Verdict.{Verdict}
+use Rattle.n41_model.specs.declared.words.Verdict.TheVariants as v
+use Rattle.n41_model.specs.Replies.{is_ok, is_delay, is_grace, is_final}
+use Rattle.n41_model.specs.Requests.{request, outs, out, knows, is_on, moment, verdict, slot_number}
+use Rattle.n41_model.specs.Sessions.{phase, passed, plan_of}
+
+-- the command of a caller that is unanswered
+abbrev pub command : List Event → ℕ → Option Command
+command [] c = None
+command (Began d n k m ∷ js) c = if d == c then Some k else command js c
+command (Answered d n a ∷ js) c = if d == c then None else command js c
+command (e ∷ js) c = command js c
+
+-- the number of a caller's last command, from 1
+abbrev pub number : List Event → ℕ → ℕ
+number [] c = 0
+number (Began d n k m ∷ js) c = if d == c then n else number js c
+number (e ∷ js) c = number js c
+
+-- the place of the event with which a caller's last command began
+abbrev pub began_at : List Event → ℕ → ℕ
+began_at [] c = 0
+began_at (Began d n k m ∷ js) c = if d == c then suc (length js) else began_at js c
+began_at (e ∷ js) c = began_at js c
+
+-- The next plan of a command. A stat of the root needs no walk; the other commands are not built yet.
+abbrev pub next_plan : Option Command → Option Plan
+next_plan (Some (asks.Stat [])) = Some (plan.Stat Root)
+next_plan k = None
+
+-- whether a request with this plan is the command's next
+abbrev pub is_plan : Option Plan → Plan → Bool
+is_plan None q = false
+is_plan (Some p) q = plans.ghosts.eq p q
+
+-- ---- what a reply gives (own; the statuses are those of RFC 8881, section 15)
+
+abbrev pub value_of_attrs : Option ℕ → Option ℕ → Attrs → Option Value
+value_of_attrs (Some kind) (Some size) a = Some (value.Stat kind size a.fileid a.mode)
+value_of_attrs kind size a = None
+
+-- the attributes of the one GETATTR behind SEQUENCE and PUTROOTFH or PUTFH
+abbrev pub stat_value : List Res → Option Value
+stat_value (s ∷ put ∷ res.GetAttr (Ok a) ∷ []) = value_of_attrs a.kind a.size a
+stat_value xs = None
+
+abbrev pub body_value : Plan → ReplyBody → Option Value
+body_value (plan.Stat at) (Results s xs) = stat_value xs
+body_value p body = None
+
+-- the value that the reply to the last request of a command spells
+abbrev pub value_of : Plan → Reply → Option Value
+value_of p y = body_value p y.body
+
+abbrev pub done_with : Option Value → Option Answer
+done_with None = None
+done_with (Some x) = Some (says.Done x)
+
+-- DELAY and GRACE lead to a new attempt, 64 times
+abbrev pub is_again : Status → ℕ → Bool
+is_again s n = (is_delay s || is_grace s) && nat_lt n 64
+
+-- the answer that a reply gives to the command of whose step it ended this attempt; None where it gives none yet
+abbrev pub answer_in : Plan → Option Verdict → ℕ → Reply → Option Answer
+answer_in p (Some (v.Ran s)) n y =
+    if is_ok s then done_with (value_of p y) else if is_again s n then None else Some (says.Refused s)
+answer_in p (Some (v.TooBig s)) n y = Some (says.Refused s)
+answer_in p w n y = None
+
+abbrev pub is_put_off_by : Option Verdict → ℕ → Bool
+is_put_off_by (Some (v.Ran s)) n = is_again s n
+is_put_off_by w n = false
+
+-- ---- a call: the caller's unanswered command, as its requests and replies have left it
+
+-- what is known of the call of one caller
+pub record Call : Type 0 where
+  pub busy : Bool  -- a request of it is out
+  pub since : Option ℕ  -- the moment of a DELAY or GRACE, while no new attempt was made
+  pub attempts : ℕ  -- the attempts of its step so far
+  pub earned : Option Answer  -- the answer that its last reply gives
+
+abbrev pub fresh_call : Call
+fresh_call = record { busy = false; since = None; attempts = 0; earned = None }
+
+abbrev pub put_call : Call → Call
+put_call k = record { busy = true; since = None; attempts = k.attempts + 1; earned = k.earned }
+
+-- the attempts of a step are counted anew after an OK
+abbrev pub attempts_after : Option Verdict → ℕ → ℕ
+attempts_after (Some (v.Ran s)) n = if is_ok s then 0 else n
+attempts_after w n = n
+
+abbrev pub took_call : ℕ → Plan → Option Verdict → Reply → Call → Call
+took_call m p w y k =
+    if is_final y
+    then record { busy = false; since = if is_put_off_by w k.attempts then Some m else None; attempts = attempts_after w k.attempts; earned = answer_in p w k.attempts y }
+    else k
+
+-- the command can go on: it has no answer yet, no request out, and is not in its two seconds
+abbrev pub is_ready_call : ℕ → Option Command → Call → Bool
+is_ready_call m None k = false
+is_ready_call m (Some c) k = not k.busy && is_none k.earned && passed k.since m
+
+-- of two callers the one whose command began first
+abbrev pub sooner : List Event → Option ℕ → ℕ → Option ℕ
+sooner js None c = Some c
+sooner js (Some d) c = if nat_lt (began_at js c) (began_at js d) then Some c else Some d
+
+abbrev pub is_caller : Option ℕ → ℕ → Bool
+is_caller None c = false
+is_caller (Some d) c = d == c
+
+-- the caller whose ready command began first, of those whose next plan this is
+abbrev pub chosen : List Event → (ℕ → Call) → Plan → ℕ → Option ℕ
+chosen js calls p zero = None
+chosen js calls p (suc c) =
+    if is_ready_call (moment js) (command js c) (calls c) && is_plan (next_plan (command js c)) p
+    then sooner js (chosen js calls p c) c
+    else chosen js calls p c
+
+abbrev pub in_running : Phase → Option ℕ → Option ℕ
+in_running Running o = o
+in_running q o = None
+
+-- a request is new where it is not out yet
+abbrev pub is_new : List Event → Request → Option ℕ → Bool
+is_new js r None = true
+is_new js r (Some n) = not (knows (outs js n) r.xid)
+
+-- the calls, and whose the request on each slot is: of a caller, or with None the client's own
+pub record Ledger : Type 0 where
+  pub calls : ℕ → Call
+  pub owners : ℕ → Option ℕ
+
+abbrev pub slot_in : Option Request → Option ℕ
+slot_in None = None
+slot_in (Some r) = slot_number r.slot
+
+abbrev pub owner_at : (ℕ → Option ℕ) → Option ℕ → Option ℕ
+owner_at owners None = None
+owner_at owners (Some n) = owners n
+
+abbrev pub put_ledger : List Event → ℕ → Request → Option ℕ → Ledger → Ledger
+put_ledger js n r s l =
+    if is_new js r s
+    then (let o = in_running (phase js) (chosen js l.calls r.plan n) in
+    record { calls = λ c. if is_caller o c then put_call (l.calls c) else l.calls c; owners = λ m. if is_on r m then o else l.owners m })
+    else l
+
+abbrev pub took_ledger : List Event → Reply → Option ℕ → Ledger → Ledger
+took_ledger js y o l =
+    record { calls = λ c. if is_caller o c then took_call (moment js) (plan_of js y) (verdict js y) y (l.calls c) else l.calls c; owners = l.owners }
+
+abbrev pub began_ledger : ℕ → Ledger → Ledger
+began_ledger d l = record { calls = λ c. if d == c then fresh_call else l.calls c; owners = l.owners }
+
+-- A new request belongs, in phase Running, to the command that began first of those that are ready and whose next plan it is;
+-- otherwise it is the client's own. There are so many callers.
+abbrev pub ledger : ℕ → List Event → Ledger
+ledger n [] = record { calls = λ c. fresh_call; owners = λ s. None }
+ledger n (Began d k a m ∷ js) = began_ledger d (ledger n js)
+ledger n (Put c p r ∷ js) = put_ledger js n r (slot_number r.slot) (ledger n js)
+ledger n (Took c p y ∷ js) = took_ledger js y (owner_at (ledger n js).owners (slot_in (request js y.xid))) (ledger n js)
+ledger n (e ∷ js) = ledger n js
+
+-- the call of a caller, and the caller whose the last request on a slot is
+abbrev pub call : ℕ → List Event → ℕ → Call
+call n js c = (ledger n js).calls c
+
+abbrev pub owner : ℕ → List Event → ℕ → Option ℕ
+owner n js s = (ledger n js).owners s
+
+-- the command of a caller can go on
+abbrev pub is_ready : ℕ → List Event → ℕ → Bool
+is_ready n js c = is_ready_call (moment js) (command js c) (call n js c)
+
+-- every command is answered
+abbrev pub all_answered : List Event → ℕ → Bool
+all_answered js zero = true
+all_answered js (suc c) = is_none (command js c) && all_answered js c

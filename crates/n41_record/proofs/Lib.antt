@@ -1,0 +1,5 @@
+pub mod Spelled
+pub mod Grown
+pub mod Gathering
+pub mod Unique
+pub mod Cut

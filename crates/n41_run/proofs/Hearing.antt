@@ -1,0 +1,13 @@
+-- The first record that was heard, as it is lent out.
+use Rattle.std.proofs.Common.{◌≡◌, ℕ, List, subst}
+use Rattle.n41_link.specs.Marks.{Begins}
+use Rattle.n41_run.specs.Exchange.{Exchange, IsReply}
+use Rattle.n41_run.specs.Probed.{HearsNone}
+
+pub hears_none : (log body lent rest : List ℕ) → lent ≡ body → Begins log body rest → ((x : Exchange) → IsReply x lent → ⊥) → HearsNone log
+hears_none log body lent rest e first none = record {
+  body = body;
+  rest = rest;
+  first = first;
+  none = subst (λ (bytes : List ℕ). (x : Exchange) → IsReply x bytes → ⊥) e none;
+}

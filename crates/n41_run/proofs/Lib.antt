@@ -1,0 +1,7 @@
+pub mod Address
+pub mod Forms
+pub mod Lengths
+pub mod ReplyLawful
+pub mod Growing
+pub mod Asking
+pub mod Hearing

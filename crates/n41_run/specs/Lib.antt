@@ -1,0 +1,5 @@
+pub mod Words
+pub mod Causes
+pub mod Asked
+pub mod Exchange
+pub mod Probed

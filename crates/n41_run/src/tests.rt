@@ -1,0 +1,207 @@
+use super::*;
+use n41_link::{Clock, Sink};
+use n41_mem::{
+    MemClock, MemDialer, MemInflow, MemOutflow, MemSink, SureListener, SureSink, SureSource,
+};
+use n41_types::Bytes;
+use std::alloc::Global;
+use std::sync::Wait;
+use std::test::Fail;
+use std::thread::Threads;
+
+// The call of a probe at moment 5, with its mark.
+const CALL: &[u8] = &[
+    0x80, 0, 0, 0x6c, 0, 0, 0, 1, 0, 0, 0, 0, 0, 0, 0, 2, 0, 1, 0x86, 0xa3, 0, 0, 0, 4, 0, 0, 0, 1,
+    0, 0, 0, 1, 0, 0, 0, 0x18, 0, 0, 0, 0, 0, 0, 0, 3, 0x6e, 0x34, 0x31, 0, 0, 0, 3, 0xe8, 0, 0, 3,
+    0xe8, 0, 0, 0, 0, 0, 0, 0, 0, 0, 0, 0, 0, 0, 0, 0, 0, 0, 0, 0, 1, 0, 0, 0, 1, 0, 0, 0, 0x2a, 0,
+    0, 0, 0, 0, 0, 0, 5, 0, 0, 0, 3, 0x6e, 0x34, 0x31, 0, 0, 0, 0, 0, 0, 0, 0, 0, 0, 0, 0, 0,
+];
+
+// Its reply: client id 7, sequence 1, no confirmed id, and the names srv.
+const REPLY: &[u8] = &[
+    0x80, 0, 0, 0x5c, 0, 0, 0, 1, 0, 0, 0, 1, 0, 0, 0, 0, 0, 0, 0, 0, 0, 0, 0, 0, 0, 0, 0, 0, 0, 0,
+    0, 0, 0, 0, 0, 0, 0, 0, 0, 1, 0, 0, 0, 0x2a, 0, 0, 0, 0, 0, 0, 0, 0, 0, 0, 0, 7, 0, 0, 0, 1, 0,
+    1, 0, 0, 0, 0, 0, 0, 0, 0, 0, 0, 0, 0, 0, 0, 0, 0, 0, 3, 0x73, 0x72, 0x76, 0, 0, 0, 0, 3, 0x73,
+    0x72, 0x76, 0, 0, 0, 0, 0,
+];
+
+const LINE: &[u8] = b"client 7, sequence 1, confirmed no, server 737276, scope 737276\n";
+
+// The reply with status NFS4ERR_DELAY and no body of a result.
+const DELAY: &[u8] = &[
+    0x80, 0, 0, 0x2c, 0, 0, 0, 1, 0, 0, 0, 1, 0, 0, 0, 0, 0, 0, 0, 0, 0, 0, 0, 0, 0, 0, 0, 0, 0, 0,
+    0x27, 0x18, 0, 0, 0, 0, 0, 0, 0, 1, 0, 0, 0, 0x2a, 0, 0, 0x27, 0x18,
+];
+
+// A fragment that is not the last.
+const UNFINISHED: &[u8] = &[0, 0, 0, 4, 1, 2, 3, 4];
+
+// A fragment of more bytes than a record may have.
+const TOO_LONG: &[u8] = &[0xff, 0xff, 0xff, 0xff];
+
+type Ended = Finish<MemDialer, SureListener, MemClock>;
+
+// What the one connection brings, and the numbers of the calls that fail.
+#[derive(Drop)]
+struct Outside<'a> {
+    pieces: &'a [&'a [u8]],
+    dials: &'a [u64],
+    reads: &'a [u64],
+    writes: &'a [u64],
+}
+
+fn run_on<R: Threads + Wait + Sync, K: Sink>(
+    rt: &R,
+    alloc: Global,
+    words: &[&str],
+    outside: &Outside<'_>,
+    sink: &mut K,
+) -> Result<Ended, Fail> {
+    let mut texts = Vec::new(alloc);
+    for word in words {
+        texts.push(String::from_str(alloc, word)?)?;
+    }
+    let mut brought = Vec::new(alloc);
+    for piece in outside.pieces {
+        brought.push(Bytes::copy_from_slice(alloc, piece)?)?;
+    }
+    let inflow = MemInflow::new(alloc, &brought, outside.reads)?;
+    let outflow = MemOutflow::new(alloc, outside.writes)?;
+    let mut links = Vec::new(alloc);
+    links.push((inflow, outflow))?;
+    let mut source = SureSource::new(alloc, &[])?;
+    Ok(run(
+        rt,
+        alloc,
+        &texts,
+        &mut source,
+        sink,
+        MemDialer::new(alloc, links, outside.dials)?,
+        SureListener::new(Vec::new(alloc)),
+        MemClock::new(alloc, &[5])?,
+    ))
+}
+
+#[test]
+fn a_probe_prints_what_the_reply_says(rt: HostRuntime) -> Result<(), Fail> {
+    let mut sink = SureSink::new(rt.alloc());
+    let outside = Outside {
+        pieces: &[&REPLY[..3], &[], &REPLY[3..7], &[], &[], &REPLY[7..]],
+        dials: &[],
+        reads: &[],
+        writes: &[],
+    };
+    let words = ["probe", "x:2049"];
+    let ended = run_on(&rt, rt.alloc(), &words, &outside, &mut sink)?;
+    assert_eq!(rt; ended.status, 0);
+    assert_eq!(rt; ended.fault, None);
+    assert_eq!(rt; sink.bytes(), LINE);
+    assert!(rt; ended.clock.gave(5) && !ended.clock.gave(6));
+    let talk = ended.probed.ok_or("there was a connection")?;
+    assert_eq!(rt; talk.mouth.said(), CALL);
+    Ok(())
+}
+
+#[test]
+fn each_fault_has_its_status(rt: HostRuntime) -> Result<(), Fail> {
+    let asked: &[&str] = &["probe", "x:2049"];
+    let none: &[u64] = &[];
+    let first: &[u64] = &[1];
+    let cut = RunFault::Unreachable(1);
+    for (words, pieces, dials, reads, writes, fault) in [
+        (&asked[..0], [REPLY], none, none, none, RunFault::Words(1)),
+        (&asked[..1], [REPLY], none, none, none, RunFault::Words(2)),
+        (
+            &["probe", "x:0"],
+            [REPLY],
+            none,
+            none,
+            none,
+            RunFault::Words(2),
+        ),
+        (asked, [REPLY], first, none, none, cut),
+        (asked, [REPLY], none, first, none, cut),
+        (asked, [REPLY], none, none, first, cut),
+        (asked, [UNFINISHED], none, none, none, cut),
+        (asked, [TOO_LONG], none, none, none, cut),
+        (asked, [DELAY], none, none, none, RunFault::Breach(0)),
+    ] {
+        let outside = Outside {
+            pieces: &pieces,
+            dials,
+            reads,
+            writes,
+        };
+        let mut sink = SureSink::new(rt.alloc());
+        let ended = run_on(&rt, rt.alloc(), words, &outside, &mut sink)?;
+        assert_eq!(rt; ended.status, fault.status());
+        assert_eq!(rt; ended.fault, Some(fault));
+        assert!(rt; sink.bytes().is_empty());
+    }
+    Ok(())
+}
+
+#[test]
+fn sixty_quiets_or_a_failing_sink_end_a_probe(rt: HostRuntime) -> Result<(), Fail> {
+    let words = ["probe", "x:2049"];
+    let quiet: &[u8] = &[];
+    let mut pieces = [quiet; 61];
+    for (patient, status) in [(59, 0), (60, 6)] {
+        pieces[patient] = REPLY;
+        let outside = Outside {
+            pieces: &pieces,
+            dials: &[],
+            reads: &[],
+            writes: &[],
+        };
+        let mut sink = SureSink::new(rt.alloc());
+        let ended = run_on(&rt, rt.alloc(), &words, &outside, &mut sink)?;
+        assert_eq!(rt; ended.status, status);
+        pieces[patient] = quiet;
+    }
+    let outside = Outside {
+        pieces: &[REPLY],
+        dials: &[],
+        reads: &[],
+        writes: &[],
+    };
+    let mut sink = MemSink::new(rt.alloc(), &[1])?;
+    let ended = run_on(&rt, rt.alloc(), &words, &outside, &mut sink)?;
+    assert_eq!(rt; ended.fault, Some(RunFault::WriteFault));
+    assert!(rt; sink.inner().bytes().is_empty());
+    Ok(())
+}
+
+#[test]
+fn a_reply_that_is_cut_is_never_printed(rt: HostRuntime) -> Result<(), Fail> {
+    for len in 0..REPLY.len() {
+        let outside = Outside {
+            pieces: &[&REPLY[..len]],
+            dials: &[],
+            reads: &[],
+            writes: &[],
+        };
+        let mut sink = SureSink::new(rt.alloc());
+        let words = ["probe", "x:2049"];
+        let ended = run_on(&rt, rt.alloc(), &words, &outside, &mut sink)?;
+        assert_eq!(rt; ended.status, 6);
+        assert!(rt; sink.bytes().is_empty());
+    }
+    Ok(())
+}
+
+#[test]
+fn a_fault_is_one_line(rt: HostRuntime) -> Result<(), Fail> {
+    for (fault, status, text) in [
+        (RunFault::Words(1), 2, "bad word at 1"),
+        (RunFault::ReadFault, 4, "read fault"),
+        (RunFault::WriteFault, 5, "write fault"),
+        (RunFault::Unreachable(1), 6, "unreachable after 1 rounds"),
+        (RunFault::Breach(0), 7, "breach at event 0"),
+        (RunFault::NoMemory, 8, "no memory"),
+    ] {
+        assert_eq!(rt; fault.status(), status);
+        assert_eq!(rt; fault.to_string(rt.alloc())?.as_str(), text);
+    }
+    Ok(())
+}

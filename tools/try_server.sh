@@ -1,0 +1,187 @@
+#!/usr/bin/env bash
+# Tries the program against a real server and against bad peers, all on the loopback. One line a try; it ends by itself, with status 1 where a try fails.
+# The server is nfs-ganesha with its tree in memory. Without it nothing is tried.
+set -u
+cd "$(dirname "$0")/.." || exit 1
+tools=$PWD/tools
+program=$PWD/crates/nfs41c/out/nfs41c
+
+if ! command -v ganesha.nfsd >/dev/null; then
+    echo "skipped: nfs-ganesha is not installed"
+    exit 0
+fi
+if ! command -v python3 >/dev/null; then
+    echo "skipped: python3 is not installed"
+    exit 0
+fi
+if [ ! -x "$program" ]; then
+    echo "failed: there is no $program; run rt ci first"
+    exit 1
+fi
+
+state=$(mktemp -d "${TMPDIR:-/tmp}/nfs41c-tries.XXXXXX") || exit 1
+started=()
+failed=0
+
+finish() {
+    local pid
+    for pid in "${started[@]}"; do
+        kill "$pid" 2>/dev/null
+    done
+    for pid in "${started[@]}"; do
+        wait_gone "$pid"
+    done
+    rm -rf "$state"
+}
+
+# Waits for a process up to five seconds, then ends it.
+wait_gone() {
+    local turn
+    for turn in $(seq 50); do
+        kill -0 "$1" 2>/dev/null || return 0
+        sleep 0.1
+    done
+    kill -9 "$1" 2>/dev/null
+}
+trap finish EXIT
+trap 'exit 1' INT TERM
+
+# A port of the loopback that is free now.
+free_port() {
+    python3 -c 'import socket; s = socket.socket(); s.bind(("127.0.0.1", 0)); print(s.getsockname()[1])'
+}
+
+# report NAME OK [DETAIL]: the line of a try, of which OK is 0 where it went well
+report() {
+    if [ "$2" -eq 0 ]; then
+        echo "ok: $1"
+    else
+        echo "failed: $1: ${3-}"
+        failed=1
+    fi
+}
+
+# probe NAME ADDR: runs the program; leaves NAME.out, NAME.err, NAME.status and NAME.memory (the most memory that it held, in KiB)
+probe() {
+    python3 - "$state/$1" "$program" probe "$2" <<'PYTHON'
+import os, resource, subprocess, sys
+place, words = sys.argv[1], sys.argv[2:]
+with open(place + ".out", "wb") as out, open(place + ".err", "wb") as err:
+    try:
+        status = subprocess.run(words, stdin=subprocess.DEVNULL, stdout=out, stderr=err, timeout=80).returncode
+    except subprocess.TimeoutExpired:
+        status = "no end"
+most = resource.getrusage(resource.RUSAGE_CHILDREN).ru_maxrss
+for name, value in (("memory", most), ("status", status)):
+    with open(place + "." + name, "w") as file:
+        file.write(str(value))
+PYTHON
+}
+
+# expect NAME STATUS OUT ERR: compares what a probe left
+expect() {
+    local place=$state/$1 status out err
+    status=$(cat "$place.status")
+    out=$(cat "$place.out")
+    err=$(cat "$place.err")
+    if [ "$status" = "$2" ] && [ "$out" = "$3" ] && [ "$err" = "$4" ]; then
+        report "$1" 0
+    else
+        report "$1" 1 "status $status, printed '$out', fault '$err'"
+    fi
+}
+
+# respond NAME MODE: starts a responder in that mode and waits for its port
+respond() {
+    local turn
+    python3 "$tools/responder.py" "$state/$1.port" "$2" 2>"$state/$1.peer" &
+    started+=($!)
+    for turn in $(seq 100); do
+        [ -f "$state/$1.port" ] && return 0
+        sleep 0.05
+    done
+    echo 1 >"$state/$1.port"
+}
+
+# answered_by NAME MODE: probes a responder in that mode
+answered_by() {
+    respond "$1" "$2"
+    probe "$1" "127.0.0.1:$(cat "$state/$1.port")"
+}
+
+start_server() {
+    local turn
+    server_port=$(free_port)
+    mkdir -p "$state/recovery"
+    sed -e "s#@PORT@#$server_port#" -e "s#@STATE@#$state#" "$tools/ganesha.conf" >"$state/ganesha.conf"
+    ganesha.nfsd -F -f "$state/ganesha.conf" -L "$state/ganesha.log" -p "$state/ganesha.pid" -N NIV_EVENT \
+        >"$state/ganesha.out" 2>&1 </dev/null &
+    server_pid=$!
+    started+=("$server_pid")
+    for turn in $(seq 150); do
+        kill -0 "$server_pid" 2>/dev/null || return 1
+        python3 -c 'import socket, sys; socket.create_connection(("127.0.0.1", int(sys.argv[1])), 1)' "$server_port" 2>/dev/null && return 0
+        sleep 0.1
+    done
+    return 1
+}
+
+try_server() {
+    local line
+    if ! start_server; then
+        report "the server starts" 1 "$(tail -n 3 "$state/ganesha.log" 2>/dev/null)"
+        return
+    fi
+    probe server "127.0.0.1:$server_port"
+    line=$(cat "$state/server.out")
+    [ "$(cat "$state/server.status")" = 0 ] && [ ! -s "$state/server.err" ] &&
+        [[ $line =~ ^client\ [0-9]+,\ sequence\ [0-9]+,\ confirmed\ no,\ server\ ([0-9a-f]+|-),\ scope\ ([0-9a-f]+|-)$ ]] &&
+        [ "$(wc -l <"$state/server.out")" -eq 1 ]
+    report "the server's ids" $? "status $(cat "$state/server.status"), printed '$line', fault '$(cat "$state/server.err")'"
+}
+
+try_nobody() {
+    local begin end
+    begin=$(date +%s%N)
+    probe nobody "127.0.0.1:$(free_port)"
+    end=$(date +%s%N)
+    expect nobody 6 "" "unreachable after 1 rounds"
+    [ $((end - begin)) -lt 3000000000 ]
+    report "nobody, within three seconds" $? "$(((end - begin) / 1000000)) ms"
+}
+
+line="client 7, sequence 1, confirmed no, server 737276, scope 737276"
+unreachable="unreachable after 1 rounds"
+breach="breach at event 0"
+
+# It takes a minute, beside the others.
+respond silent silent
+probe silent "127.0.0.1:$(cat "$state/silent.port")" &
+silent_pid=$!
+started+=("$silent_pid")
+
+try_server
+try_nobody
+answered_by answer answer
+expect answer 0 "$line" ""
+answered_by pieces pieces
+expect pieces 0 "$line" ""
+answered_by delay delay
+expect delay 7 "" "$breach"
+answered_by xid xid
+expect xid 7 "" "$breach"
+answered_by rubbish rubbish
+expect rubbish 7 "" "$breach"
+answered_by half half
+expect half 6 "" "$unreachable"
+answered_by fragment fragment
+expect fragment 6 "" "$unreachable"
+answered_by huge huge
+expect huge 6 "" "$unreachable"
+[ "$(cat "$state/huge.memory")" -lt 65536 ]
+report "huge, in less than 64 MiB" $? "$(cat "$state/huge.memory") KiB"
+
+wait "$silent_pid"
+expect silent 6 "" "$unreachable"
+
+exit "$failed"
