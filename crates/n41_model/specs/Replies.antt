@@ -125,6 +125,11 @@ is_breach _ = false
 
 -- ---- the reply to a request without a slot
 
+-- the results of a reply, of which there are none where it was denied or rejected
+abbrev pub results_of : ReplyBody → List Res
+results_of (Results s xs) = xs
+results_of body = []
+
 -- the sizes of the fore channel with which the client can work (own)
 abbrev pub is_wide_enough : SessionMade → Bool
 is_wide_enough m = nat_le 4096 m.fore.request_max && nat_le 4096 m.fore.reply_max && nat_le 8 m.fore.ops_max && nat_le 1 m.fore.requests_max

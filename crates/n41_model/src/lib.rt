@@ -1,8 +1,11 @@
 //! What a journal says, which journals a client may have, and the laws of them.
 #![tactic(auto)]
 
+mod bare_verdicts;
 mod laws;
+mod verdicts;
 mod words;
 
 pub use laws::one_request_is_out;
+pub use verdicts::{gives_back, is_final, sequence_status};
 pub use words::{BareVerdict, Item, KnownClient, Phase, Sent, Setup, Standing, Verdict};

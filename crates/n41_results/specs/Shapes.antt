@@ -1,5 +1,5 @@
 -- Which results answer a request.
-use Rattle.std.specs.Prelude.{ℕ, suc, zero, ◌+◌, ◌==◌, Bool, true, false, not, ◌&&◌, ◌||◌, List, [], ◌∷◌, ◌++◌, length, replicate, map, Option, Some, None, Result, Ok, Err, if◌then◌else◌, is_some}
+use Rattle.std.specs.Prelude.{ℕ, suc, zero, ◌+◌, ◌==◌, Bool, true, false, not, ◌&&◌, ◌||◌, List, [], ◌∷◌, ◌++◌, length, replicate, map, Option, Some, None, Result, Ok, Err, if◌then◌else◌, is_some, min, ◌^◌, ◌-◌}
 use Rattle.std.specs.List.{list_any}
 use Rattle.n41_types.specs.declared.attributes.Attrs.{Attrs}
 use Rattle.n41_types.specs.declared.operations.Operation.{Operation}
@@ -132,3 +132,8 @@ body_shape q (Results s (x ∷ xs)) = shape_from q.plan 0 (asked_of q) (x ∷ xs
 -- the first thing in which a reply is no reply to this request; None where it is one
 abbrev pub shape_of : Request → Reply → Option Shape
 shape_of q r = if q.xid == r.xid then body_shape q r.body else Some (shape.Xid r.xid)
+
+-- What `fits` tells of it: a place that a u32 does not hold is told as the greatest u32 (own).
+abbrev pub told : Shape → Shape
+told (shape.Op n o) = shape.Op (min n (2 ^ 32 - 1)) o
+told s = s
