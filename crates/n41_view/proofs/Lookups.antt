@@ -1,0 +1,94 @@
+-- What the tables tell when they are looked into.
+use Rattle.std.proofs.Common.{◌≡◌, ◌⊎◌, inl, inr, ℕ, zero, suc, ◌+◌, ◌<◌, ◌≤◌, ◌==◌, Bool, true, false, ◌&&◌, ◌||◌, not, List, [], ◌∷◌, ◌++◌, map, length, Option, Some, None, if◌then◌else◌, slice_get, refl, sym, ◌∙◌, ap, subst, arith}
+use Rattle.std.proofs.lemmas.Bool.Decides.{nat_tests}
+use Rattle.std.proofs.lemmas.Option.{slice_get_past}
+use Rattle.n41_types.specs.declared.plans.Request.{Request}
+use Rattle.n41_journal.specs.declared.events.Event.{Event}
+use Rattle.n41_model.specs.Requests.{bares, bare, outs, out, knows, has_xid, first}
+use Rattle.n41_model.specs.Sessions.{slots, all_outs, outs_from}
+use Rattle.n41_model.proofs.Slots.{Seats}
+use Rattle.n41_view.specs.View.{View, view, held_of, slot_of, slots_from, seat_of, seats_from}
+use Rattle.n41_view.specs.Step.{has, request_in, holds, held_with, alone, held_requests, requests}
+use Rattle.n41_view.specs.declared.tables.Held.{Held}
+use Rattle.n41_view.specs.declared.tables.Seat.{Seat}
+use Rattle.n41_view.specs.declared.tables.Slot.{Slot}
+use Rattle.n41_view.proofs.Lists.{one_on, one_bare, alone_is}
+
+-- ---- each slot and each caller by itself
+
+pub slots_map : (n : ℕ) (js es : List Event) (f : Slot → Slot) → ((s : ℕ) → f (slot_of n js s) ≡ slot_of n es s) → (i k : ℕ) → map f (slots_from n js i k) ≡ slots_from n es i k
+slots_map n js es f h i zero = refl
+slots_map n js es f h i (suc k) = let a = h i in let b = slots_map n js es f h (i + 1) k in cc
+
+pub slots_same : (n : ℕ) (js es : List Event) → ((s : ℕ) → slot_of n js s ≡ slot_of n es s) → (i k : ℕ) → slots_from n js i k ≡ slots_from n es i k
+slots_same n js es h i zero = refl
+slots_same n js es h i (suc k) = let a = h i in let b = slots_same n js es h (i + 1) k in cc
+
+pub seats_map : (n : ℕ) (js es : List Event) (f : Seat → Seat) → ((c : ℕ) → f (seat_of n js c) ≡ seat_of n es c) → (i k : ℕ) → map f (seats_from n js i k) ≡ seats_from n es i k
+seats_map n js es f h i zero = refl
+seats_map n js es f h i (suc k) = let a = h i in let b = seats_map n js es f h (i + 1) k in cc
+
+pub seats_same : (n : ℕ) (js es : List Event) → ((c : ℕ) → seat_of n js c ≡ seat_of n es c) → (i k : ℕ) → seats_from n js i k ≡ seats_from n es i k
+seats_same n js es h i zero = refl
+seats_same n js es h i (suc k) = let a = h i in let b = seats_same n js es h (i + 1) k in cc
+
+-- ---- by number
+
+pub slots_length : (n : ℕ) (js : List Event) (i k : ℕ) → length (slots_from n js i k) ≡ k
+slots_length n js i zero = refl
+slots_length n js i (suc k) = ap (λ m. suc m) (slots_length n js (i + 1) k)
+
+slot_from : (n : ℕ) (js : List Event) (i k s : ℕ) → s < k → slice_get (slots_from n js i k) s ≡ Some (slot_of n js (i + s))
+slot_from n js i zero s h = absurd (omega arith)
+slot_from n js i (suc k) zero h = let e : i + 0 ≡ i = omega arith in rw e refl
+slot_from n js i (suc k) (suc s) h = let e : i + suc s ≡ (i + 1) + s = omega arith in rw e (slot_from n js (i + 1) k s (omega arith))
+
+pub slot_below : (n : ℕ) (js : List Event) (k s : ℕ) → s < k → slice_get (slots_from n js 0 k) s ≡ Some (slot_of n js s)
+slot_below n js k s h = let e : 0 + s ≡ s = omega arith in subst (λ (m : ℕ). slice_get (slots_from n js 0 k) s ≡ Some (slot_of n js m)) e (slot_from n js 0 k s h)
+
+pub slot_past : (n : ℕ) (js : List Event) (k s : ℕ) → k ≤ s → slice_get (slots_from n js 0 k) s ≡ None
+slot_past n js k s h = slice_get_past (slots_from n js 0 k) s (rw (slots_length n js 0 k) h)
+
+-- ---- by xid
+
+pub request_held : (n : ℕ) (js : List Event) (s : ℕ) (o : Option Request) → request_in (held_of n js s o) ≡ o
+request_held n js s None = refl
+request_held n js s (Some r) = refl
+
+pub holds_is : (n : ℕ) (js : List Event) (s x : ℕ) (o : Option Request) → holds x (held_of n js s o) ≡ has x o
+holds_is n js s x o = ap (λ (z : Option Request). has x z) (request_held n js s o)
+
+has_at : (js : List Event) (x i s : ℕ) → has x (out js s) ≡ true → has x (out js i) ≡ false → (t : Bool) → (i == s) ≡ t → (i ≡ s) → ⊥
+has_at js x i s a b t e h = let c = subst (λ (m : ℕ). has x (out js m) ≡ false) h b in cc
+
+found_at : (n : ℕ) (js : List Event) (x i k s : ℕ) → i ≤ s → has x (out js s) ≡ true → ((m : ℕ) → has x (out js m) ≡ true → m ≡ s) → (i + 1 ≤ s → held_with (slots_from n js (i + 1) k) x ≡ held_of n js s (out js s)) → (b : Bool) → has x (out js i) ≡ b → held_with (slots_from n js i (suc k)) x ≡ held_of n js s (out js s)
+found_at n js x i k s l h u f true e =
+    rw (holds_is n js i x (out js i), e) (let d = u i e in subst (λ (m : ℕ). held_of n js i (out js i) ≡ held_of n js m (out js m)) d refl)
+found_at n js x i k s l h u f false e =
+    rw (holds_is n js i x (out js i), e) (f (let d = has_at js x i s h e (i == s) refl in grind (arith, nat_tests, l, d)))
+
+-- the only request with this xid is found
+pub found_from : (n : ℕ) (js : List Event) (x i k s : ℕ) → i ≤ s → s < i + k → has x (out js s) ≡ true → ((m : ℕ) → has x (out js m) ≡ true → m ≡ s) → held_with (slots_from n js i k) x ≡ held_of n js s (out js s)
+found_from n js x i zero s l b h u = absurd (omega arith)
+found_from n js x i (suc k) s l b h u = found_at n js x i k s l h u (λ g. found_from n js x (i + 1) k s g (omega arith) h u) (has x (out js i)) refl
+
+pub absent_from : (n : ℕ) (js : List Event) (x i k : ℕ) → ((m : ℕ) → has x (out js m) ≡ false) → held_with (slots_from n js i k) x ≡ None
+absent_from n js x i zero h = refl
+absent_from n js x i (suc k) h = rw (holds_is n js i x (out js i), h i) (absent_from n js x (i + 1) k h)
+
+-- ---- all requests
+
+held_requests_are : (n : ℕ) (js : List Event) (i k : ℕ) → Seats js → held_requests (slots_from n js i k) ≡ outs_from js i k
+held_requests_are n js i zero s = refl
+held_requests_are n js i (suc k) s =
+    let a : request_in (held_of n js i (out js i)) ≡ out js i = request_held n js i (out js i) in
+    let b : outs js i ≡ alone (out js i) = alone_is (outs js i) (one_on i (outs js i) (s.on i)) in
+    let d : alone (request_in (held_of n js i (out js i))) ≡ outs js i = ap (λ (z : Option Request). alone z) a ∙ sym b in
+    let e = held_requests_are n js (i + 1) k s in
+    ap (λ (z : List Request). z ++ held_requests (slots_from n js (i + 1) k)) d ∙ ap (λ (z : List Request). outs js i ++ z) e
+
+pub requests_are : (n : ℕ) (js : List Event) → Seats js → requests (view n js) ≡ all_outs js
+requests_are n js s =
+    let d : alone (bare js) ≡ bares js = sym (alone_is (bares js) (one_bare (bares js) s.lone)) in
+    let e = held_requests_are n js 0 (slots js) s in
+    ap (λ (z : List Request). z ++ held_requests (slots_from n js 0 (slots js))) d ∙ ap (λ (z : List Request). bares js ++ z) e
