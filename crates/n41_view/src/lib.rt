@@ -4,4 +4,5 @@
 mod laws;
 mod tables;
 
+pub use laws::the_view_steps;
 pub use tables::{Facts, Held, PutOffs, Seat, Slot};
