@@ -1,3 +1,4 @@
 pub mod View
 pub mod Step
 pub mod Laws
+pub mod Due
