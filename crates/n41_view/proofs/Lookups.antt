@@ -79,6 +79,21 @@ slot_below n js k s h = let e : 0 + s ≡ s = omega arith in subst (λ (m : ℕ)
 pub slot_past : (n : ℕ) (js : List Event) (k s : ℕ) → k ≤ s → slice_get (slots_from n js 0 k) s ≡ None
 slot_past n js k s h = slice_get_past (slots_from n js 0 k) s (rw (slots_length n js 0 k) h)
 
+seats_length : (n : ℕ) (js : List Event) (i k : ℕ) → length (seats_from n js i k) ≡ k
+seats_length n js i zero = refl
+seats_length n js i (suc k) = ap (λ m. suc m) (seats_length n js (i + 1) k)
+
+seat_from : (n : ℕ) (js : List Event) (i k c : ℕ) → c < k → slice_get (seats_from n js i k) c ≡ Some (seat_of n js (i + c))
+seat_from n js i zero c h = absurd (omega arith)
+seat_from n js i (suc k) zero h = let e : i + 0 ≡ i = omega arith in rw e refl
+seat_from n js i (suc k) (suc c) h = let e : i + suc c ≡ (i + 1) + c = omega arith in rw e (seat_from n js (i + 1) k c (omega arith))
+
+pub seat_below : (n : ℕ) (js : List Event) (k c : ℕ) → c < k → slice_get (seats_from n js 0 k) c ≡ Some (seat_of n js c)
+seat_below n js k c h = let e : 0 + c ≡ c = omega arith in subst (λ (m : ℕ). slice_get (seats_from n js 0 k) c ≡ Some (seat_of n js m)) e (seat_from n js 0 k c h)
+
+pub seat_past : (n : ℕ) (js : List Event) (k c : ℕ) → k ≤ c → slice_get (seats_from n js 0 k) c ≡ None
+seat_past n js k c h = slice_get_past (seats_from n js 0 k) c (rw (seats_length n js 0 k) h)
+
 -- ---- by xid
 
 pub request_held : (n : ℕ) (js : List Event) (s : ℕ) (o : Option Request) → request_in (held_of n js s o) ≡ o

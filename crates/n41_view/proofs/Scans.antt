@@ -9,7 +9,7 @@ use Rattle.n41_journal.specs.declared.events.Event.TheVariants.{Began, Put, Took
 use Rattle.n41_model.specs.declared.words.Phase.{Phase}
 use Rattle.n41_model.specs.declared.words.Phase.TheVariants.{Down, Binding, Session, ClientId, Settling, Reclaiming, Completing, Running, Dead}
 use Rattle.n41_model.specs.Requests.{bares, outs, out, used, sent, is_waiting, first, quit}
-use Rattle.n41_model.specs.Sessions.{slots, target, is_empty, is_free, lowest_free, free_slot, highest_from, highest, put_off, next_xid, unused_xid, xid_after, last_xid, all_outs}
+use Rattle.n41_model.specs.Sessions.{is_step_of, plan_of, slots, target, is_empty, is_free, lowest_free, free_slot, highest_from, highest, put_off, next_xid, unused_xid, xid_after, last_xid, all_outs}
 use Rattle.n41_model.specs.Calls.{command, owner, all_answered}
 use Rattle.n41_model.specs.Due.{waits_from, any_waits, own_from, any_own, finishing}
 use Rattle.n41_model.proofs.Slots.{Seats}
@@ -134,20 +134,28 @@ xid_is n js s = ap (λ (rs : List Request). unused_xid rs (xid_after (last_xid j
 
 -- ---- what was put off
 
--- no plan is the request of these phases
-abbrev IsQuiet : Phase → Type 0
-IsQuiet q = (js : List Event) → put_off js q ≡ None
+-- a phase that puts no request has none that was put off
+quiet : (q : Phase) → ((p : Plan) → is_step_of q p ≡ false) → (js : List Event) → put_off js q ≡ None
+quiet q h [] = refl
+quiet q h (Began c n k m ∷ js) = quiet q h js
+quiet q h (Put c p r ∷ js) = rw (h r.plan) (quiet q h js)
+quiet q h (Took c p y ∷ js) = rw (h (plan_of js y)) (quiet q h js)
+quiet q h (CbTook c p x ∷ js) = quiet q h js
+quiet q h (CbPut c p x ∷ js) = quiet q h js
+quiet q h (Dialed c ∷ js) = quiet q h js
+quiet q h (DialFailed ∷ js) = quiet q h js
+quiet q h (Broke c w ∷ js) = quiet q h js
+quiet q h (Ticked m ∷ js) = quiet q h js
+quiet q h (Answered c n a ∷ js) = quiet q h js
+quiet q h (Quit ∷ js) = quiet q h js
 
-quiet_down : IsQuiet Down
-quiet_down [] = refl
-quiet_down (Began c n k m ∷ js) = quiet_down js
-quiet_down (Put c p r ∷ js) = quiet_down js
-quiet_down (Took c p y ∷ js) = quiet_down js
-quiet_down (CbTook c p x ∷ js) = quiet_down js
-quiet_down (CbPut c p x ∷ js) = quiet_down js
-quiet_down (Dialed c ∷ js) = quiet_down js
-quiet_down (DialFailed ∷ js) = quiet_down js
-quiet_down (Broke c w ∷ js) = quiet_down js
-quiet_down (Ticked m ∷ js) = quiet_down js
-quiet_down (Answered c n a ∷ js) = quiet_down js
-quiet_down (Quit ∷ js) = quiet_down js
+pub put_off_is : (js : List Event) (q : Phase) → put_off_in (put_offs_of js) q ≡ put_off js q
+put_off_is js Down = sym (quiet Down (λ p. refl) js)
+put_off_is js Binding = refl
+put_off_is js Session = refl
+put_off_is js ClientId = refl
+put_off_is js Settling = sym (quiet Settling (λ p. refl) js)
+put_off_is js Reclaiming = sym (quiet Reclaiming (λ p. refl) js)
+put_off_is js Completing = refl
+put_off_is js Running = sym (quiet Running (λ p. refl) js)
+put_off_is js Dead = sym (quiet Dead (λ p. refl) js)
