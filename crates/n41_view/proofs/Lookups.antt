@@ -79,7 +79,7 @@ slot_below n js k s h = let e : 0 + s ≡ s = omega arith in subst (λ (m : ℕ)
 pub slot_past : (n : ℕ) (js : List Event) (k s : ℕ) → k ≤ s → slice_get (slots_from n js 0 k) s ≡ None
 slot_past n js k s h = slice_get_past (slots_from n js 0 k) s (rw (slots_length n js 0 k) h)
 
-seats_length : (n : ℕ) (js : List Event) (i k : ℕ) → length (seats_from n js i k) ≡ k
+pub seats_length : (n : ℕ) (js : List Event) (i k : ℕ) → length (seats_from n js i k) ≡ k
 seats_length n js i zero = refl
 seats_length n js i (suc k) = ap (λ m. suc m) (seats_length n js (i + 1) k)
 

@@ -22,12 +22,6 @@ use Rattle.n41_view.proofs.Lookups.{requests_are}
 
 -- ---- callers
 
-and_same : (a b : Bool) → (a && b) ≡ (b && a)
-and_same true true = refl
-and_same true false = refl
-and_same false true = refl
-and_same false false = refl
-
 and_apart : (a b c : Bool) → ((a && b) && c) ≡ (b && (a && c))
 and_apart true true c = refl
 and_apart true false c = refl

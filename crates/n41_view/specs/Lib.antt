@@ -2,3 +2,4 @@ pub mod View
 pub mod Step
 pub mod Laws
 pub mod Due
+pub mod Causes

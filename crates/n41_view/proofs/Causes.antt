@@ -1,0 +1,130 @@
+-- The causes of answers, by the tables and by the journal.
+use Rattle.std.proofs.Common.{◌≡◌, ◌↔◌, ◌⊎◌, inl, inr, ℕ, zero, suc, ◌+◌, ◌<◌, ◌≤◌, ◌==◌, Bool, true, false, ◌&&◌, ◌||◌, List, [], ◌∷◌, Option, Some, None, if◌then◌else◌, slice_get, refl, sym, ◌∙◌, ap, subst, arith}
+use Rattle.std.proofs.lemmas.Bool.Decides.{nat_tests}
+use Rattle.std.proofs.lemmas.Option.{slice_get_within}
+use Rattle.n41_types.specs.declared.commands.Answer.{Answer}
+use Rattle.n41_types.specs.declared.commands.Answer.TheVariants as answer
+use Rattle.n41_types.specs.declared.plans.Class.{Class}
+use Rattle.n41_types.specs.declared.plans.Class.TheVariants.{Bare, Reading, State, Changing}
+use Rattle.n41_types.specs.declared.plans.Request.{Request}
+use Rattle.n41_types.specs.Plans.{class_of}
+use Rattle.n41_journal.specs.declared.events.Event.{Event}
+use Rattle.n41_model.specs.Answers.{HasCause, UnknownCause, UnreachableCause, round_limit}
+use Rattle.n41_model.specs.Calls.{owner, is_caller}
+use Rattle.n41_model.specs.Requests.{out, doubt, rounds}
+use Rattle.n41_model.specs.Sessions.{slots}
+use Rattle.n41_view.specs.View.{view, held_of, slots_from, seat_of, seats_from}
+use Rattle.n41_view.specs.Causes.{is_changing, doubts, any_doubt, CauseIn}
+use Rattle.n41_view.specs.declared.tables.Seat.{Seat}
+use Rattle.n41_view.proofs.Known.{Known}
+use Rattle.n41_view.proofs.Lookups.{seats_length, seat_below}
+
+and_three : (a b c : Bool) → (a && b && c) ≡ true → (a ≡ true) × (b ≡ true) × (c ≡ true)
+and_three true true true e = (refl, refl, refl)
+and_three true true false e = absurd (cc)
+and_three true false c e = absurd (cc)
+and_three false b c e = absurd (cc)
+
+changing_is : (k : Class) → is_changing k ≡ true → k ≡ Changing
+changing_is Bare e = absurd (cc)
+changing_is Reading e = absurd (cc)
+changing_is State e = absurd (cc)
+changing_is Changing e = refl
+
+caller_is : (o : Option ℕ) (c : ℕ) → is_caller o c ≡ true → o ≡ Some c
+caller_is None c e = absurd (cc)
+caller_is (Some d) c e = grind (arith, nat_tests, e)
+
+-- a changing request of the caller is in doubt, on this slot
+pub record Doubt (n : ℕ) (js : List Event) (c s : ℕ) (r : Request) : Type 0 where
+  pub is_out : out js s ≡ Some r
+  pub own : owner n js s ≡ Some c
+  pub changing : class_of r.plan ≡ Changing
+  pub broke : doubt js s ≡ true
+
+doubt_of : (n : ℕ) (js : List Event) (c s : ℕ) (q : Option Request) → out js s ≡ q → doubts c (held_of n js s q) ≡ true → (r : Request) × Doubt n js c s r
+doubt_of n js c s None o e = absurd (cc)
+doubt_of n js c s (Some r) o e =
+    let h = and_three (is_caller (owner n js s) c) (is_changing (class_of r.plan)) (doubt js s) e in
+    (r, record { is_out = o; own = caller_is (owner n js s) c h.0; changing = changing_is (class_of r.plan) h.1; broke = h.2 })
+
+doubt_holds : (n : ℕ) (js : List Event) (c s : ℕ) (r : Request) → Doubt n js c s r → doubts c (held_of n js s (out js s)) ≡ true
+doubt_holds n js c s r d =
+    let a = d.is_out in
+    let b = d.own in
+    let e = d.changing in
+    let f = d.broke in
+    let g : is_caller (Some c) c ≡ true = grind (arith, nat_tests) in
+    rw (a, b, e, f, g) refl
+
+or_left : (a b : Bool) → a ≡ true → (a || b) ≡ true
+or_left true b e = refl
+or_left false b e = absurd (cc)
+
+or_right : (a b : Bool) → b ≡ true → (a || b) ≡ true
+or_right true b e = refl
+or_right false b e = e
+
+or_false : (b : Bool) → (false || b) ≡ true → b ≡ true
+or_false b e = e
+
+abbrev Doubted : ℕ → List Event → ℕ → Type 0
+Doubted n js c = (s : ℕ) × (r : Request) × Doubt n js c s r
+
+doubt_at : (n : ℕ) (js : List Event) (c i k : ℕ) → (any_doubt c (slots_from n js (i + 1) k) ≡ true → Doubted n js c) → (b : Bool) → doubts c (held_of n js i (out js i)) ≡ b → (b || any_doubt c (slots_from n js (i + 1) k)) ≡ true → Doubted n js c
+doubt_at n js c i k f true e h = let d = doubt_of n js c i (out js i) refl e in (i, d.0, d.1)
+doubt_at n js c i k f false e h = f h
+
+doubt_from : (n : ℕ) (js : List Event) (c i k : ℕ) → any_doubt c (slots_from n js i k) ≡ true → Doubted n js c
+doubt_from n js c i zero e = absurd (cc)
+doubt_from n js c i (suc k) e = doubt_at n js c i k (doubt_from n js c (i + 1) k) (doubts c (held_of n js i (out js i))) refl e
+
+doubt_found_at : (n : ℕ) (js : List Event) (c i k s : ℕ) (r : Request) → Doubt n js c s r → i ≤ s → (i + 1 ≤ s → any_doubt c (slots_from n js (i + 1) k) ≡ true) → (t : Bool) → (i == s) ≡ t → any_doubt c (slots_from n js i (suc k)) ≡ true
+doubt_found_at n js c i k s r d l f true q =
+    let e : s ≡ i = grind (arith, nat_tests, q) in
+    or_left (doubts c (held_of n js i (out js i))) (any_doubt c (slots_from n js (i + 1) k)) (subst (λ (m : ℕ). doubts c (held_of n js m (out js m)) ≡ true) e (doubt_holds n js c s r d))
+doubt_found_at n js c i k s r d l f false q =
+    or_right (doubts c (held_of n js i (out js i))) (any_doubt c (slots_from n js (i + 1) k)) (f (grind (arith, nat_tests, q, l)))
+
+doubt_found : (n : ℕ) (js : List Event) (c i k s : ℕ) (r : Request) → Doubt n js c s r → i ≤ s → s < i + k → any_doubt c (slots_from n js i k) ≡ true
+doubt_found n js c i zero s r d l b = absurd (omega arith)
+doubt_found n js c i (suc k) s r d l b = doubt_found_at n js c i k s r d l (λ g. doubt_found n js c (i + 1) k s r d g (omega arith)) (i == s) refl
+
+-- ---- both ways
+
+unknown_to : (n : ℕ) (js : List Event) (c : ℕ) → round_limit ≤ rounds js → any_doubt c (slots_from n js 0 (slots js)) ≡ true → UnknownCause n js c
+unknown_to n js c e d =
+    let h = doubt_from n js c 0 (slots js) d in
+    record { slot = h.0; request = h.1; is_out = h.2.is_out; own = h.2.own; changing = h.2.changing; broke = h.2.broke; ended = e }
+
+unknown_from : (n : ℕ) (js : List Event) (c : ℕ) → Known js → UnknownCause n js c → any_doubt c (slots_from n js 0 (slots js)) ≡ true
+unknown_from n js c k h =
+    doubt_found n js c 0 (slots js) h.slot h.request (record { is_out = h.is_out; own = h.own; changing = h.changing; broke = h.broke }) (omega arith) (let l = k.below h.slot h.request h.is_out in omega arith)
+
+unreachable_to : (n : ℕ) (js : List Event) (c k : ℕ) → Known js → (k ≡ round_limit) × (round_limit ≤ rounds js) × (any_doubt c (slots_from n js 0 (slots js)) ≡ false) → UnreachableCause n js c k
+unreachable_to n js c k v h =
+    record { count = h.0; ended = h.1; certain = λ a. (let b = unknown_from n js c v a in let d = h.2 in cc) }
+
+unreachable_from : (n : ℕ) (js : List Event) (c k : ℕ) → UnreachableCause n js c k → (k ≡ round_limit) × (round_limit ≤ rounds js) × (any_doubt c (slots_from n js 0 (slots js)) ≡ false)
+unreachable_from n js c k h = (h.count, h.ended, at (any_doubt c (slots_from n js 0 (slots js))) refl) where
+  at : (b : Bool) → any_doubt c (slots_from n js 0 (slots js)) ≡ b → any_doubt c (slots_from n js 0 (slots js)) ≡ false
+  at true e = absurd (h.certain (unknown_to n js c h.ended e))
+  at false e = e
+
+cause_of : (n : ℕ) (js : List Event) (c : ℕ) (a : Answer) → Known js → CauseIn (view n js) (seat_of n js c) a ↔ HasCause n js c a
+cause_of n js c (answer.Done x) k = (λ h. h, λ h. h)
+cause_of n js c (answer.Refused e) k = (λ h. h, λ h. h)
+cause_of n js c answer.Unknown k = (λ h. unknown_to n js c h.0 h.1, λ h. (h.ended, unknown_from n js c k h))
+cause_of n js c (answer.StateLost e) k = (λ h. h, λ h. h)
+cause_of n js c (answer.Unreachable m) k = (λ h. unreachable_to n js c m k h, λ h. unreachable_from n js c m h)
+cause_of n js c answer.NotOpen k = (λ h. h, λ h. h)
+cause_of n js c (answer.Breach p) k = (λ h. h, λ h. h)
+
+pub cause_is : (n : ℕ) (js : List Event) (c : ℕ) (s : Seat) (a : Answer) → Known js → slice_get (seats_from n js 0 n) c ≡ Some s → CauseIn (view n js) s a ↔ HasCause n js c a
+cause_is n js c s a k e =
+    let w = slice_get_within (seats_from n js 0 n) c s e in
+    let l = seats_length n js 0 n in
+    let b : c < n = omega arith in
+    let d = seat_below n js n c b in
+    let f : seat_of n js c ≡ s = (let g : Some (seat_of n js c) ≡ Some s = sym d ∙ e in cc) in
+    subst (λ (z : Seat). CauseIn (view n js) z a ↔ HasCause n js c a) f (cause_of n js c a k)
