@@ -17,7 +17,7 @@ use Rattle.n41_view.specs.View.{view, held_of, slots_from, seat_of, seats_from}
 use Rattle.n41_view.specs.Causes.{is_changing, doubts, any_doubt, CauseIn}
 use Rattle.n41_view.specs.declared.tables.Seat.{Seat}
 use Rattle.n41_view.proofs.Known.{Known}
-use Rattle.n41_view.proofs.Lookups.{seats_length, seat_below}
+use Rattle.n41_view.proofs.Lookups.{some_held, any_below, seats_length, seat_below}
 
 and_three : (a b c : Bool) → (a && b && c) ≡ true → (a ≡ true) × (b ≡ true) × (c ≡ true)
 and_three true true true e = (refl, refl, refl)
@@ -57,49 +57,18 @@ doubt_holds n js c s r d =
     let g : is_caller (Some c) c ≡ true = grind (arith, nat_tests) in
     rw (a, b, e, f, g) refl
 
-or_left : (a b : Bool) → a ≡ true → (a || b) ≡ true
-or_left true b e = refl
-or_left false b e = absurd (cc)
-
-or_right : (a b : Bool) → b ≡ true → (a || b) ≡ true
-or_right true b e = refl
-or_right false b e = e
-
-or_false : (b : Bool) → (false || b) ≡ true → b ≡ true
-or_false b e = e
-
-abbrev Doubted : ℕ → List Event → ℕ → Type 0
-Doubted n js c = (s : ℕ) × (r : Request) × Doubt n js c s r
-
-doubt_at : (n : ℕ) (js : List Event) (c i k : ℕ) → (any_doubt c (slots_from n js (i + 1) k) ≡ true → Doubted n js c) → (b : Bool) → doubts c (held_of n js i (out js i)) ≡ b → (b || any_doubt c (slots_from n js (i + 1) k)) ≡ true → Doubted n js c
-doubt_at n js c i k f true e h = let d = doubt_of n js c i (out js i) refl e in (i, d.0, d.1)
-doubt_at n js c i k f false e h = f h
-
-doubt_from : (n : ℕ) (js : List Event) (c i k : ℕ) → any_doubt c (slots_from n js i k) ≡ true → Doubted n js c
-doubt_from n js c i zero e = absurd (cc)
-doubt_from n js c i (suc k) e = doubt_at n js c i k (doubt_from n js c (i + 1) k) (doubts c (held_of n js i (out js i))) refl e
-
-doubt_found_at : (n : ℕ) (js : List Event) (c i k s : ℕ) (r : Request) → Doubt n js c s r → i ≤ s → (i + 1 ≤ s → any_doubt c (slots_from n js (i + 1) k) ≡ true) → (t : Bool) → (i == s) ≡ t → any_doubt c (slots_from n js i (suc k)) ≡ true
-doubt_found_at n js c i k s r d l f true q =
-    let e : s ≡ i = grind (arith, nat_tests, q) in
-    or_left (doubts c (held_of n js i (out js i))) (any_doubt c (slots_from n js (i + 1) k)) (subst (λ (m : ℕ). doubts c (held_of n js m (out js m)) ≡ true) e (doubt_holds n js c s r d))
-doubt_found_at n js c i k s r d l f false q =
-    or_right (doubts c (held_of n js i (out js i))) (any_doubt c (slots_from n js (i + 1) k)) (f (grind (arith, nat_tests, q, l)))
-
-doubt_found : (n : ℕ) (js : List Event) (c i k s : ℕ) (r : Request) → Doubt n js c s r → i ≤ s → s < i + k → any_doubt c (slots_from n js i k) ≡ true
-doubt_found n js c i zero s r d l b = absurd (omega arith)
-doubt_found n js c i (suc k) s r d l b = doubt_found_at n js c i k s r d l (λ g. doubt_found n js c (i + 1) k s r d g (omega arith)) (i == s) refl
-
 -- ---- both ways
 
 unknown_to : (n : ℕ) (js : List Event) (c : ℕ) → round_limit ≤ rounds js → any_doubt c (slots_from n js 0 (slots js)) ≡ true → UnknownCause n js c
 unknown_to n js c e d =
-    let h = doubt_from n js c 0 (slots js) d in
-    record { slot = h.0; request = h.1; is_out = h.2.is_out; own = h.2.own; changing = h.2.changing; broke = h.2.broke; ended = e }
+    let f = some_held (doubts c) n js 0 (slots js) d in
+    let h = doubt_of n js c f.0 (out js f.0) refl f.1 in
+    record { slot = f.0; request = h.0; is_out = h.1.is_out; own = h.1.own; changing = h.1.changing; broke = h.1.broke; ended = e }
 
 unknown_from : (n : ℕ) (js : List Event) (c : ℕ) → Known js → UnknownCause n js c → any_doubt c (slots_from n js 0 (slots js)) ≡ true
 unknown_from n js c k h =
-    doubt_found n js c 0 (slots js) h.slot h.request (record { is_out = h.is_out; own = h.own; changing = h.changing; broke = h.broke }) (omega arith) (let l = k.below h.slot h.request h.is_out in omega arith)
+    let d = doubt_holds n js c h.slot h.request (record { is_out = h.is_out; own = h.own; changing = h.changing; broke = h.broke }) in
+    any_below (doubts c) n js (slots js) h.slot d (k.below h.slot h.request h.is_out)
 
 unreachable_to : (n : ℕ) (js : List Event) (c k : ℕ) → Known js → (k ≡ round_limit) × (round_limit ≤ rounds js) × (any_doubt c (slots_from n js 0 (slots js)) ≡ false) → UnreachableCause n js c k
 unreachable_to n js c k v h =

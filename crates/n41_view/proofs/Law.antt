@@ -1,4 +1,4 @@
--- Each event moves the tables by its step.
+-- The laws, for every journal that is kept.
 use Rattle.std.proofs.Common.{◌≡◌, ℕ, List, ◌∷◌}
 use Rattle.n41_journal.specs.declared.events.Event.{Event}
 use Rattle.n41_journal.specs.declared.events.Event.TheVariants.{Began, Put, Took, CbTook, CbPut, Dialed, DialFailed, Broke, Ticked, Answered, Quit}
@@ -7,7 +7,10 @@ use Rattle.n41_model.specs.Kept.{Kept, May}
 use Rattle.n41_model.proofs.Slots.{Seats, seats}
 use Rattle.n41_view.specs.View.{view}
 use Rattle.n41_view.specs.Step.{step}
-use Rattle.n41_view.specs.Laws.{ViewSteps}
+use Rattle.n41_view.specs.Laws.{ViewSteps, DueFromView, EndFromView, CausesFromView, AwaitedFromView, OldFromView}
+use Rattle.n41_view.proofs.Awaited.{awaited_is, old_is}
+use Rattle.n41_view.proofs.Causes.{cause_is}
+use Rattle.n41_view.proofs.Dues.{due_is, ended_is}
 use Rattle.n41_view.proofs.Fresh.{put_placed}
 use Rattle.n41_view.proofs.Known.{Known, known}
 use Rattle.n41_view.proofs.PutStep.{put_step}
@@ -29,3 +32,18 @@ event_step u js Quit s v h = quit_step u.callers js
 
 pub view_steps : ViewSteps
 view_steps u js e k = event_step u js e (seats u js k.0) (known u js k.0) k.1
+
+pub due_law : DueFromView
+due_law u js i k = due_is u js i (seats u js k) (known u js k)
+
+pub end_law : EndFromView
+end_law u js k = ended_is u.callers js
+
+pub cause_law : CausesFromView
+cause_law u js c s a k e = cause_is u.callers js c s a (known u js k) e
+
+pub awaited_law : AwaitedFromView
+awaited_law u js x r k = awaited_is u.callers js x r (seats u js k) (known u js k)
+
+pub old_law : OldFromView
+old_law u js x k = old_is u.callers js x (known u js k)

@@ -11,6 +11,7 @@ use Rattle.n41_model.specs.declared.words.Sent.{Sent}
 use Rattle.n41_model.proofs.Slots.{Seats}
 use Rattle.n41_view.specs.View.{View, view, held_of, slot_of, slots_from, seat_of, seats_from}
 use Rattle.n41_view.specs.Step.{has, request_in, holds, held_with, alone, held_requests, requests}
+use Rattle.n41_view.specs.Due.{any_held}
 use Rattle.n41_view.specs.declared.tables.Facts.{Facts}
 use Rattle.n41_view.specs.declared.tables.Held.{Held}
 use Rattle.n41_view.specs.declared.tables.Seat.{Seat}
@@ -120,6 +121,42 @@ found_from n js x i (suc k) s l b h u = found_at n js x i k s l h u (λ g. found
 pub absent_from : (n : ℕ) (js : List Event) (x i k : ℕ) → ((m : ℕ) → has x (out js m) ≡ false) → held_with (slots_from n js i k) x ≡ None
 absent_from n js x i zero h = refl
 absent_from n js x i (suc k) h = rw (holds_is n js i x (out js i), h i) (absent_from n js x (i + 1) k h)
+
+-- ---- by what is held
+
+or_left : (a b : Bool) → a ≡ true → (a || b) ≡ true
+or_left true b e = refl
+or_left false b e = absurd (cc)
+
+or_right : (a b : Bool) → b ≡ true → (a || b) ≡ true
+or_right true b e = refl
+or_right false b e = e
+
+abbrev SomeHeld : (Option Held → Bool) → ℕ → List Event → Type 0
+SomeHeld p n js = (s : ℕ) × (p (held_of n js s (out js s)) ≡ true)
+
+some_at : (p : Option Held → Bool) (n : ℕ) (js : List Event) (i k : ℕ) → (any_held p (slots_from n js (i + 1) k) ≡ true → SomeHeld p n js) → (b : Bool) → p (held_of n js i (out js i)) ≡ b → (b || any_held p (slots_from n js (i + 1) k)) ≡ true → SomeHeld p n js
+some_at p n js i k f true e h = (i, e)
+some_at p n js i k f false e h = f h
+
+-- what holds of one slot is found there
+pub some_held : (p : Option Held → Bool) (n : ℕ) (js : List Event) (i k : ℕ) → any_held p (slots_from n js i k) ≡ true → (s : ℕ) × (p (held_of n js s (out js s)) ≡ true)
+some_held p n js i zero e = absurd (cc)
+some_held p n js i (suc k) e = some_at p n js i k (some_held p n js (i + 1) k) (p (held_of n js i (out js i))) refl e
+
+any_at : (p : Option Held → Bool) (n : ℕ) (js : List Event) (i k s : ℕ) → p (held_of n js s (out js s)) ≡ true → i ≤ s → (i + 1 ≤ s → any_held p (slots_from n js (i + 1) k) ≡ true) → (t : Bool) → (i == s) ≡ t → any_held p (slots_from n js i (suc k)) ≡ true
+any_at p n js i k s d l f true q =
+    let e : s ≡ i = grind (arith, nat_tests, q) in
+    or_left (p (held_of n js i (out js i))) (any_held p (slots_from n js (i + 1) k)) (subst (λ (m : ℕ). p (held_of n js m (out js m)) ≡ true) e d)
+any_at p n js i k s d l f false q = or_right (p (held_of n js i (out js i))) (any_held p (slots_from n js (i + 1) k)) (f (grind (arith, nat_tests, q, l)))
+
+-- and holds of any where it holds of one
+pub any_from : (p : Option Held → Bool) (n : ℕ) (js : List Event) (i k s : ℕ) → p (held_of n js s (out js s)) ≡ true → i ≤ s → s < i + k → any_held p (slots_from n js i k) ≡ true
+any_from p n js i zero s d l b = absurd (omega arith)
+any_from p n js i (suc k) s d l b = any_at p n js i k s d l (λ g. any_from p n js (i + 1) k s d g (omega arith)) (i == s) refl
+
+pub any_below : (p : Option Held → Bool) (n : ℕ) (js : List Event) (k s : ℕ) → p (held_of n js s (out js s)) ≡ true → s < k → any_held p (slots_from n js 0 k) ≡ true
+any_below p n js k s d b = any_from p n js 0 k s d (omega arith) (omega arith)
 
 -- ---- all requests
 

@@ -11,6 +11,7 @@ use Rattle.n41_model.specs.Calls.{is_caller}
 use Rattle.n41_model.specs.Due.{only_if}
 use Rattle.n41_model.specs.Requests.{has_xid, is_waiting}
 use Rattle.n41_view.specs.View.{View}
+use Rattle.n41_view.specs.Due.{any_held}
 use Rattle.n41_view.specs.Step.{has, held_with}
 use Rattle.n41_view.specs.declared.tables.Held.{Held}
 use Rattle.n41_view.specs.declared.tables.Seat.{Seat}
@@ -29,8 +30,7 @@ doubts c (Some h) = is_caller h.owner c && is_changing (class_of h.request.plan)
 
 -- a changing request of the caller is in doubt
 abbrev pub any_doubt : ℕ → List Slot → Bool
-any_doubt c [] = false
-any_doubt c (s ∷ ss) = doubts c s.held || any_doubt c ss
+any_doubt c ss = any_held (doubts c) ss
 
 -- the cause of an answer to the command of the caller at this seat
 abbrev pub CauseIn : View → Seat → Answer → Type 0
@@ -59,8 +59,7 @@ is_old_held m x None = false
 is_old_held m x (Some h) = has_xid x h.request && is_waiting h.sent && nat_le (h.put_at + 60) m
 
 abbrev pub any_old : ℕ → ℕ → List Slot → Bool
-any_old m x [] = false
-any_old m x (s ∷ ss) = is_old_held m x s.held || any_old m x ss
+any_old m x ss = any_held (is_old_held m x) ss
 
 -- the request with this xid was put on the connection at least 60 seconds ago, and has no reply
 abbrev pub is_old_in : View → ℕ → Bool

@@ -39,14 +39,18 @@ is_ready_seat m s = is_ready_call m s.command (call_of s)
 
 -- ---- slots
 
+-- this holds of what is held on one of these
+abbrev pub any_held : (Option Held → Bool) → List Slot → Bool
+any_held p [] = false
+any_held p (s ∷ ss) = p s.held || any_held p ss
+
 abbrev pub waits_held : Option Held → Bool
 waits_held None = false
 waits_held (Some h) = is_waiting h.sent
 
 -- a request on a slot waits for its reply
 abbrev pub any_waiting : List Slot → Bool
-any_waiting [] = false
-any_waiting (s ∷ ss) = waits_held s.held || any_waiting ss
+any_waiting ss = any_held waits_held ss
 
 abbrev pub owns_held : Option Held → Bool
 owns_held None = false
@@ -54,8 +58,7 @@ owns_held (Some h) = is_none h.owner
 
 -- a request on a slot is the client's own
 abbrev pub any_owned : List Slot → Bool
-any_owned [] = false
-any_owned (s ∷ ss) = owns_held s.held || any_owned ss
+any_owned ss = any_held owns_held ss
 
 -- nothing is out on it, it is not above this target, and its turns are not spent
 abbrev pub is_free_slot : ℕ → Slot → Bool
