@@ -1,5 +1,5 @@
 -- What is awaited and what is old, by the tables and by the journal.
-use Rattle.std.proofs.Common.{◌≡◌, ◌↔◌, ◌⊎◌, inl, inr, ℕ, zero, suc, ◌+◌, ◌<◌, ◌≤◌, ◌==◌, Bool, true, false, ◌&&◌, ◌||◌, List, [], ◌∷◌, Option, Some, None, if◌then◌else◌, refl, sym, ◌∙◌, ap, subst, arith}
+use Rattle.std.proofs.Common.{◌≡◌, ◌↔◌, ◌⊎◌, inl, inr, ℕ, zero, suc, ◌+◌, ◌≤◌, Bool, true, false, ◌&&◌, ◌||◌, List, Option, Some, None, if◌then◌else◌, refl, sym, ◌∙◌, ap, subst, arith}
 use Rattle.std.proofs.lemmas.Bool.Decides.{nat_tests}
 use Rattle.std.specs.Prelude.{nat_le}
 use Rattle.n41_types.specs.declared.plans.Request.{Request}
@@ -13,8 +13,7 @@ use Rattle.n41_model.specs.Sessions.{slots}
 use Rattle.n41_model.proofs.Slots.{Seats}
 use Rattle.n41_model.proofs.Tests.{only_if_some}
 use Rattle.n41_view.specs.View.{view, held_of, slots_from}
-use Rattle.n41_view.specs.Step.{has, holds, held_with}
-use Rattle.n41_view.specs.Due.{any_held}
+use Rattle.n41_view.specs.Step.{has, held_with}
 use Rattle.n41_view.specs.Causes.{awaited_in, awaited_held, is_old_held, any_old, is_old_in}
 use Rattle.n41_view.proofs.Lists.{first_on}
 use Rattle.n41_view.proofs.Known.{Known}

@@ -1,10 +1,10 @@
 -- The caller that is chosen among the seats is the one that the journal tells.
-use Rattle.std.proofs.Common.{◌≡◌, ℕ, zero, suc, ◌+◌, ◌==◌, Bool, true, false, ◌&&◌, ◌||◌, not, List, [], ◌∷◌, Option, Some, None, if◌then◌else◌, refl, sym, ◌∙◌, ap, subst, arith, add-one}
+use Rattle.std.proofs.Common.{◌≡◌, ℕ, zero, suc, ◌+◌, Bool, true, false, List, Option, Some, None, if◌then◌else◌, refl, sym, ◌∙◌, ap, arith, add-one}
 use Rattle.std.specs.Prelude.{nat_lt}
 use Rattle.n41_types.specs.declared.plans.Plan.{Plan}
 use Rattle.n41_journal.specs.declared.events.Event.{Event}
 use Rattle.n41_model.specs.Requests.{moment}
-use Rattle.n41_model.specs.Calls.{command, began_at, call, ledger, chosen, sooner, is_ready_call, is_plan, next_plan}
+use Rattle.n41_model.specs.Calls.{began_at, ledger, chosen, sooner}
 use Rattle.n41_view.specs.View.{seat_of, seats_from}
 use Rattle.n41_view.specs.Step.{wants, sooner_seat, chosen_from, caller_in}
 use Rattle.n41_view.specs.declared.tables.Seat.{Seat}

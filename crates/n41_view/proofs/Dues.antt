@@ -1,10 +1,9 @@
 -- What is due by the tables is what is due by the journal.
-use Rattle.std.proofs.Common.{◌≡◌, ◌⊎◌, inl, inr, ℕ, zero, suc, ◌+◌, ◌<◌, ◌≤◌, Bool, true, false, ◌&&◌, ◌||◌, not, List, [], ◌∷◌, Option, Some, None, if◌then◌else◌, slice_get, refl, sym, ◌∙◌, ap, subst, arith}
+use Rattle.std.proofs.Common.{◌≡◌, ◌⊎◌, inl, inr, ℕ, ◌+◌, ◌<◌, ◌≤◌, Bool, true, false, ◌&&◌, ◌||◌, not, List, Option, Some, None, slice_get, refl, sym, ◌∙◌, ap, arith}
 use Rattle.std.proofs.lemmas.Bool.Decides.{nat_tests}
-use Rattle.std.specs.Prelude.{nat_le, is_none, is_some}
+use Rattle.std.specs.Prelude.{nat_le, is_none}
 use Rattle.n41_types.specs.declared.plans.Plan.{Plan}
 use Rattle.n41_types.specs.declared.plans.Request.{Request}
-use Rattle.n41_types.specs.declared.plans.SlotUse.{SlotUse}
 use Rattle.n41_types.specs.Plans.{class_of, is_cached}
 use Rattle.n41_results.specs.declared.sessions.SessionMade.{SessionMade}
 use Rattle.n41_journal.specs.declared.events.Event.{Event}
@@ -14,14 +13,14 @@ use Rattle.n41_model.specs.declared.words.Phase.{Phase}
 use Rattle.n41_model.specs.declared.words.Phase.TheVariants.{Down, Binding, Session, ClientId, Settling, Reclaiming, Completing, Running, Dead}
 use Rattle.n41_model.specs.declared.words.Setup.{Setup}
 use Rattle.n41_model.specs.Answers.{round_limit}
-use Rattle.n41_model.specs.Requests.{standing, moment, rounds, bares, bare, outs, out, used, sent, first}
-use Rattle.n41_model.specs.Sessions.{client, session, slots, bound, completed, phase, put_off, passed, free_slot, highest, is_empty, next_xid}
+use Rattle.n41_model.specs.Requests.{standing, moment, rounds, bares, bare, out, used, sent}
+use Rattle.n41_model.specs.Sessions.{session, slots, bound, phase, put_off, passed, free_slot, is_empty, next_xid}
 use Rattle.n41_model.specs.Calls.{command, next_plan, is_ready}
-use Rattle.n41_model.specs.Due.{due, item_due, only_if, with_plan, on_free, on_free_slot, bare_with, bare_due, goes_again, finishing, is_dead, is_running, is_session, any_waits, any_own, step_plan, phase_plan, own_plan, destroy_plan, may_retry, may_step, may_own, may_begin, may_destroy, is_open, is_over, has_ended}
+use Rattle.n41_model.specs.Due.{due, item_due, only_if, with_plan, on_free, on_free_slot, bare_with, bare_due, goes_again, finishing, is_dead, is_running, is_session, step_plan, phase_plan, own_plan, destroy_plan, may_step, may_own, is_open, has_ended}
 use Rattle.n41_model.proofs.Slots.{Seats}
-use Rattle.n41_view.specs.View.{view, facts_of, held_of, slot_of, slots_from, seat_of, seats_from, put_offs_of}
+use Rattle.n41_view.specs.View.{view, facts_of, held_of, slots_from, seats_from}
 use Rattle.n41_view.specs.Step.{held_at}
-use Rattle.n41_view.specs.Due.{finishing_in, is_timely, plan_for, put_off_in, goes_held, goes_slot, begins_seat, on_slot, new_on, new_bare, may_step_in, may_own_in, due_item, due_in, any_waiting, any_owned, highest_in, first_free, xid_in, is_over_in, has_ended_in}
+use Rattle.n41_view.specs.Due.{finishing_in, is_timely, plan_for, goes_held, goes_slot, begins_seat, on_slot, new_on, new_bare, may_step_in, may_own_in, due_item, due_in, xid_in, has_ended_in}
 use Rattle.n41_view.specs.declared.tables.Held.{Held}
 use Rattle.n41_view.specs.declared.tables.Slot.{Slot}
 use Rattle.n41_view.proofs.Lists.{empty_is_none}
@@ -101,8 +100,8 @@ may_step_is u js =
     let d = waiting_is u.callers js in
     let e : is_none (bare js) ≡ is_empty (bares js) = sym (empty_is_none (bares js)) in
     parts a b d e where
-  parts : {a b : Bool} {t v : Bool} {w x : Bool} {y z : Bool} → a ≡ b → t ≡ v → w ≡ x → y ≡ z → (not a && t && not (is_session (phase js) && w) && y) ≡ (not b && v && not (is_session (phase js) && x) && z)
-  parts a b d e = cc
+      parts : {a b : Bool} {t v : Bool} {w x : Bool} {y z : Bool} → a ≡ b → t ≡ v → w ≡ x → y ≡ z → (not a && t && not (is_session (phase js) && w) && y) ≡ (not b && v && not (is_session (phase js) && x) && z)
+      parts a b d e = cc
 
 may_own_is : (u : Setup) (js : List Event) → may_own_in (view u.callers js) ≡ may_own u js
 may_own_is u js = parts (finishing_is u.callers js) (timely_is js) (owned_is u.callers js) where
@@ -169,5 +168,5 @@ ended_is n js =
     let a = finishing_is n js in
     let e : is_none (bare js) ≡ is_empty (bares js) = sym (empty_is_none (bares js)) in
     parts a e where
-  parts : {a b : Bool} {y z : Bool} → a ≡ b → y ≡ z → (is_dead (phase js) || nat_le round_limit (rounds js) || (a && (is_none (standing js) || (y && is_none (destroy_plan js))))) ≡ (is_dead (phase js) || nat_le round_limit (rounds js) || (b && (is_none (standing js) || (z && is_none (destroy_plan js)))))
-  parts a e = cc
+      parts : {a b : Bool} {y z : Bool} → a ≡ b → y ≡ z → (is_dead (phase js) || nat_le round_limit (rounds js) || (a && (is_none (standing js) || (y && is_none (destroy_plan js))))) ≡ (is_dead (phase js) || nat_le round_limit (rounds js) || (b && (is_none (standing js) || (z && is_none (destroy_plan js)))))
+      parts a e = cc

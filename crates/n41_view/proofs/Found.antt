@@ -1,10 +1,10 @@
 -- What has an xid and is out is the one request that is found by it.
-use Rattle.std.proofs.Common.{◌≡◌, ◌⊎◌, inl, inr, ℕ, zero, suc, ◌+◌, ◌<◌, ◌==◌, Bool, true, false, List, [], ◌∷◌, Option, Some, None, refl, sym, ◌∙◌, ap, subst, arith}
+use Rattle.std.proofs.Common.{◌≡◌, ℕ, Bool, true, false, List, Option, Some, None, refl, ◌∙◌, ap, subst, arith}
 use Rattle.std.proofs.lemmas.Bool.Decides.{nat_tests}
 use Rattle.n41_types.specs.declared.plans.Request.{Request}
 use Rattle.n41_types.specs.declared.plans.SlotUse.{SlotUse}
 use Rattle.n41_journal.specs.declared.events.Event.{Event}
-use Rattle.n41_model.specs.Requests.{request, bares, bare, outs, out, is_on, is_bare, is_use_of, is_bare_use, has_xid, first}
+use Rattle.n41_model.specs.Requests.{request, bares, bare, outs, out, is_on, is_use_of, is_bare_use, has_xid}
 use Rattle.n41_model.proofs.Slots.{Seats}
 use Rattle.n41_view.specs.Step.{has}
 use Rattle.n41_view.proofs.Lists.{first_on, first_bare}
@@ -65,7 +65,6 @@ only_on js x s r t k e i m (Some q) o h =
     let a : is_use_of q.slot m ≡ true = first_on m (outs js m) q (t.on m) o in
     let b : is_use_of r.slot m ≡ true = subst (λ (z : Request). is_use_of z.slot m ≡ true) g a in
     use_is r.slot m s b i where
-  use_is : (o : Option SlotUse) (a b : ℕ) → is_use_of o a ≡ true → is_use_of o b ≡ true → a ≡ b
-  use_is None a b v z = absurd (cc)
-  use_is (Some p) a b v z = grind (arith, nat_tests, v, z)
-
+      use_is : (o : Option SlotUse) (a b : ℕ) → is_use_of o a ≡ true → is_use_of o b ≡ true → a ≡ b
+      use_is None a b v z = absurd (cc)
+      use_is (Some p) a b v z = grind (arith, nat_tests, v, z)

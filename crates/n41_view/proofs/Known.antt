@@ -1,7 +1,6 @@
 -- What is out is found by its xid among all that was put, and stands on a slot of the last session.
-use Rattle.std.proofs.Common.{◌≡◌, ◌⊎◌, inl, inr, ℕ, zero, suc, ◌+◌, ◌<◌, ◌≤◌, ◌==◌, Bool, true, false, ◌&&◌, ◌||◌, not, List, [], ◌∷◌, ◌++◌, length, Option, Some, None, if◌then◌else◌, refl, sym, ◌∙◌, ap, subst, arith}
+use Rattle.std.proofs.Common.{◌≡◌, inl, inr, ℕ, ◌<◌, ◌==◌, Bool, true, false, List, [], ◌∷◌, Option, Some, None, if◌then◌else◌, refl, sym, ◌∙◌, ap, subst, arith}
 use Rattle.std.proofs.lemmas.Bool.Decides.{nat_tests}
-use Rattle.std.specs.Prelude.{is_some}
 use Rattle.n41_types.specs.declared.plans.Request.{Request}
 use Rattle.n41_types.specs.declared.plans.SlotUse.{SlotUse}
 use Rattle.n41_results.specs.declared.replies.Reply.{Reply}
@@ -10,12 +9,12 @@ use Rattle.n41_journal.specs.declared.events.Event.{Event}
 use Rattle.n41_journal.specs.declared.events.Event.TheVariants.{Began, Put, Took, CbTook, CbPut, Dialed, DialFailed, Broke, Ticked, Answered, Quit}
 use Rattle.n41_model.specs.declared.words.Setup.{Setup}
 use Rattle.n41_model.specs.Replies.{is_final}
-use Rattle.n41_model.specs.Requests.{request, bares, bare, outs, out, made, is_on, is_bare, is_use_of, knows, has_xid, is_bare_use, joined, without, first}
-use Rattle.n41_model.specs.Sessions.{slots, all_outs}
+use Rattle.n41_model.specs.Requests.{request, bares, bare, outs, out, made, is_on, is_bare, is_use_of, has_xid, is_bare_use, without, first}
+use Rattle.n41_model.specs.Sessions.{slots}
 use Rattle.n41_model.specs.Kept.{Kept, May}
 use Rattle.n41_model.proofs.Slots.{Seats, seats}
 use Rattle.n41_view.proofs.Lists.{one_on, one_bare, knows_is, without_is, joined_is, first_on, first_bare}
-use Rattle.n41_view.proofs.Fresh.{Placed, Fresh, put_placed, unknown_on, unknown_bare}
+use Rattle.n41_view.proofs.Fresh.{Placed, put_placed, unknown_on, unknown_bare}
 use Rattle.n41_view.specs.Step.{has}
 
 pub record Known (js : List Event) : Type 0 where

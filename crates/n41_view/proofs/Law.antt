@@ -1,9 +1,9 @@
 -- The laws, for every journal that is kept.
-use Rattle.std.proofs.Common.{◌≡◌, ℕ, List, ◌∷◌}
+use Rattle.std.proofs.Common.{◌≡◌, List, ◌∷◌}
 use Rattle.n41_journal.specs.declared.events.Event.{Event}
 use Rattle.n41_journal.specs.declared.events.Event.TheVariants.{Began, Put, Took, CbTook, CbPut, Dialed, DialFailed, Broke, Ticked, Answered, Quit}
 use Rattle.n41_model.specs.declared.words.Setup.{Setup}
-use Rattle.n41_model.specs.Kept.{Kept, May}
+use Rattle.n41_model.specs.Kept.{May}
 use Rattle.n41_model.proofs.Slots.{Seats, seats}
 use Rattle.n41_view.specs.View.{view}
 use Rattle.n41_view.specs.Step.{step}

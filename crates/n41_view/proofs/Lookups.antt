@@ -1,10 +1,10 @@
 -- What the tables tell when they are looked into.
-use Rattle.std.proofs.Common.{◌≡◌, ◌⊎◌, inl, inr, ℕ, zero, suc, ◌+◌, ◌<◌, ◌≤◌, ◌==◌, Bool, true, false, ◌&&◌, ◌||◌, not, List, [], ◌∷◌, ◌++◌, map, length, Option, Some, None, if◌then◌else◌, slice_get, refl, sym, ◌∙◌, ap, subst, arith}
+use Rattle.std.proofs.Common.{◌≡◌, ℕ, zero, suc, ◌+◌, ◌<◌, ◌≤◌, ◌==◌, Bool, true, false, ◌||◌, List, ◌++◌, map, length, Option, Some, None, slice_get, refl, sym, ◌∙◌, ap, subst, arith}
 use Rattle.std.proofs.lemmas.Bool.Decides.{nat_tests}
 use Rattle.std.proofs.lemmas.Option.{slice_get_past}
 use Rattle.n41_types.specs.declared.plans.Request.{Request}
 use Rattle.n41_journal.specs.declared.events.Event.{Event}
-use Rattle.n41_model.specs.Requests.{used, retried, sent, put_at, doubt, bares, bare, outs, out, knows, has_xid, first}
+use Rattle.n41_model.specs.Requests.{used, retried, sent, put_at, doubt, bares, bare, outs, out}
 use Rattle.n41_model.specs.Sessions.{slots, all_outs, outs_from}
 use Rattle.n41_model.specs.Calls.{owner}
 use Rattle.n41_model.specs.declared.words.Sent.{Sent}

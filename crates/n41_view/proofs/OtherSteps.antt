@@ -1,5 +1,5 @@
 -- The tables after events that put and take nothing.
-use Rattle.std.proofs.Common.{◌≡◌, ℕ, suc, ◌+◌, ◌==◌, Bool, true, false, ◌||◌, List, [], ◌∷◌, map, length, Option, Some, None, if◌then◌else◌, refl, sym, ◌∙◌, ap}
+use Rattle.std.proofs.Common.{◌≡◌, ℕ, suc, ◌==◌, Bool, true, false, List, ◌∷◌, length, Option, Some, None, refl}
 use Rattle.n41_types.specs.declared.commands.Answer.{Answer}
 use Rattle.n41_types.specs.declared.commands.Command.{Command}
 use Rattle.n41_types.specs.declared.plans.Request.{Request}
@@ -8,9 +8,8 @@ use Rattle.n41_journal.specs.declared.events.Event.{Event}
 use Rattle.n41_journal.specs.declared.events.Event.TheVariants.{Began, Dialed, DialFailed, Broke, Ticked, Answered, Quit}
 use Rattle.n41_model.specs.Requests.{out}
 use Rattle.n41_model.specs.Sessions.{slots}
-use Rattle.n41_view.specs.View.{view, held_of, slot_of, slots_from, seat_of, seats_from}
+use Rattle.n41_view.specs.View.{view, held_of, slot_of, seat_of}
 use Rattle.n41_view.specs.Step.{dialed_slot, broke_slot, dialed_held, broke_held, began_seat, answered_seat, step}
-use Rattle.n41_view.specs.declared.tables.Held.{Held}
 use Rattle.n41_view.proofs.Lookups.{slot_is, slots_map, slots_same, slot_same, seats_map, seats_same, tables_are}
 
 -- ---- slots

@@ -1,17 +1,16 @@
 -- Whose a request is that is put, and what becomes of the calls.
-use Rattle.std.proofs.Common.{◌≡◌, ◌⊎◌, inl, inr, ℕ, zero, suc, ◌+◌, ◌<◌, ◌≤◌, ◌==◌, Bool, true, false, ◌&&◌, ◌||◌, not, List, [], ◌∷◌, Option, Some, None, if◌then◌else◌, slice_get, refl, sym, ◌∙◌, ap, subst, arith}
+use Rattle.std.proofs.Common.{◌≡◌, ◌⊎◌, inl, inr, ℕ, ◌<◌, ◌≤◌, Bool, true, false, not, List, ◌∷◌, Option, Some, None, if◌then◌else◌, slice_get, refl, sym, ◌∙◌, ap, arith}
 use Rattle.std.proofs.lemmas.Bool.Decides.{nat_tests}
 use Rattle.n41_types.specs.declared.plans.Request.{Request}
 use Rattle.n41_types.specs.declared.plans.SlotUse.{SlotUse}
 use Rattle.n41_journal.specs.declared.events.Event.{Event}
 use Rattle.n41_journal.specs.declared.events.Event.TheVariants.{Put}
-use Rattle.n41_model.specs.Requests.{outs, out, knows, is_on, is_use_of, slot_number, first}
+use Rattle.n41_model.specs.Requests.{outs, out, is_on, is_use_of, slot_number}
 use Rattle.n41_model.specs.Sessions.{slots, phase}
-use Rattle.n41_model.specs.Calls.{Call, Ledger, call, owner, ledger, chosen, put_call, is_caller, in_running, is_new}
+use Rattle.n41_model.specs.Calls.{Ledger, call, owner, ledger, chosen, put_call, is_caller, in_running, is_new}
 use Rattle.n41_model.proofs.Slots.{Seats}
 use Rattle.n41_view.specs.View.{view, slots_from, held_of}
-use Rattle.n41_view.specs.Step.{has, holds, held_at, is_new_in, new_owner}
-use Rattle.n41_view.specs.declared.tables.Slot.{Slot}
+use Rattle.n41_view.specs.Step.{has, held_at, is_new_in, new_owner}
 use Rattle.n41_view.proofs.Lists.{one_on, knows_is}
 use Rattle.n41_view.proofs.Known.{Known}
 use Rattle.n41_view.proofs.Lookups.{slot_below, slot_past, holds_is}
@@ -85,4 +84,3 @@ number_on (Some u) s e = grind (arith, nat_tests, e)
 -- a request that is put on a slot is new where its xid is not the one that is out there
 pub new_on : (js : List Event) (r : Request) (s : ℕ) (b : Bool) → Seats js → is_on r s ≡ true → has r.xid (out js s) ≡ b → is_new js r (slot_number r.slot) ≡ not b
 new_on js r s b t i e = rw (number_on r.slot s i, knows_is (outs js s) r.xid (one_on s (outs js s) (t.on s)), e) refl
-

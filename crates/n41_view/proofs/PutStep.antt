@@ -1,24 +1,20 @@
 -- The tables after a Put.
-use Rattle.std.proofs.Common.{◌≡◌, ◌⊎◌, inl, inr, ℕ, zero, suc, ◌+◌, ◌==◌, Bool, true, false, ◌&&◌, ◌||◌, not, List, [], ◌∷◌, map, Option, Some, None, if◌then◌else◌, refl, sym, ◌∙◌, ap, subst, arith}
+use Rattle.std.proofs.Common.{◌≡◌, ℕ, Bool, true, false, not, List, ◌∷◌, map, Option, Some, None, if◌then◌else◌, refl, sym, ◌∙◌, ap, arith}
 use Rattle.std.proofs.lemmas.Bool.Decides.{nat_tests}
 use Rattle.n41_types.specs.declared.plans.Request.{Request}
 use Rattle.n41_journal.specs.declared.events.Event.{Event}
 use Rattle.n41_journal.specs.declared.events.Event.TheVariants.{Put}
-use Rattle.n41_model.specs.Requests.{moment, used, retried, sent, put_at, doubt, turn_of, bares, bare, outs, out, is_on, is_bare, knows, has_xid, first, joined, slot_number}
-use Rattle.n41_model.specs.Sessions.{slots, all_outs}
+use Rattle.n41_model.specs.Requests.{moment, used, retried, sent, put_at, doubt, turn_of, bares, bare, outs, out, is_on, is_bare, knows, slot_number}
+use Rattle.n41_model.specs.Sessions.{slots}
 use Rattle.n41_model.specs.Calls.{Call, call, owner, put_call, is_caller, is_new}
 use Rattle.n41_model.specs.declared.words.Sent.{Sent}
 use Rattle.n41_model.specs.declared.words.Sent.TheVariants.{Waits}
 use Rattle.n41_model.proofs.Slots.{Seats}
-use Rattle.n41_view.specs.View.{View, view, facts_of, held_of, slot_of, slots_from, seat_of, seat_with, seats_from}
-use Rattle.n41_view.specs.Step.{has, requests, counted, put_facts, put_bare, put_held, put_slot, put_seat, new_owner, step}
-use Rattle.n41_view.specs.declared.tables.Facts.{Facts}
-use Rattle.n41_view.specs.declared.tables.Held.{Held}
-use Rattle.n41_view.specs.declared.tables.Seat.{Seat}
-use Rattle.n41_view.specs.declared.tables.Slot.{Slot}
+use Rattle.n41_view.specs.View.{view, facts_of, held_of, slot_of, slots_from, seat_of, seat_with, seats_from}
+use Rattle.n41_view.specs.Step.{has, counted, put_facts, put_bare, put_held, put_slot, put_seat, new_owner, step}
 use Rattle.n41_view.proofs.Lists.{one_on, one_bare, knows_is, joined_is}
 use Rattle.n41_view.proofs.Fresh.{Placed}
-use Rattle.n41_view.proofs.Known.{Known, put_out, put_out_bare, put_same_on}
+use Rattle.n41_view.proofs.Known.{Known, put_out, put_same_on}
 use Rattle.n41_view.proofs.Lookups.{parts, slot_with, slot_is, slot_same, tables_are, slots_map, seats_map, requests_are}
 use Rattle.n41_view.proofs.Owners.{put_owner, new_owner_is, call_put, owner_other, owner_new, owner_old, new_on}
 

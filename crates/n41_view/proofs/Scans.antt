@@ -1,20 +1,18 @@
 -- What a scan of the tables tells is what the journal tells.
-use Rattle.std.proofs.Common.{◌≡◌, ◌⊎◌, inl, inr, ℕ, zero, suc, ◌+◌, ◌<◌, ◌≤◌, ◌==◌, max, Bool, true, false, ◌&&◌, ◌||◌, not, List, [], ◌∷◌, length, Option, Some, None, if◌then◌else◌, refl, sym, ◌∙◌, ap, subst, arith, add-one}
-use Rattle.std.specs.Prelude.{nat_le, nat_lt, is_none, is_some}
+use Rattle.std.proofs.Common.{◌≡◌, ℕ, zero, suc, ◌+◌, max, Bool, true, false, ◌&&◌, ◌||◌, not, List, [], ◌∷◌, length, Option, Some, None, if◌then◌else◌, refl, sym, ◌∙◌, ap, arith, add-one}
+use Rattle.std.specs.Prelude.{nat_le, nat_lt, is_none}
 use Rattle.n41_types.specs.declared.plans.Plan.{Plan}
 use Rattle.n41_types.specs.declared.plans.Request.{Request}
-use Rattle.n41_results.specs.declared.replies.Reply.{Reply}
 use Rattle.n41_journal.specs.declared.events.Event.{Event}
 use Rattle.n41_journal.specs.declared.events.Event.TheVariants.{Began, Put, Took, CbTook, CbPut, Dialed, DialFailed, Broke, Ticked, Answered, Quit}
 use Rattle.n41_model.specs.declared.words.Phase.{Phase}
 use Rattle.n41_model.specs.declared.words.Phase.TheVariants.{Down, Binding, Session, ClientId, Settling, Reclaiming, Completing, Running, Dead}
-use Rattle.n41_model.specs.Requests.{bares, outs, out, used, sent, is_waiting, first, quit}
-use Rattle.n41_model.specs.Sessions.{is_step_of, plan_of, slots, target, is_empty, is_free, lowest_free, free_slot, highest_from, highest, put_off, next_xid, unused_xid, xid_after, last_xid, all_outs}
+use Rattle.n41_model.specs.Requests.{outs, out, used, sent, is_waiting, quit}
+use Rattle.n41_model.specs.Sessions.{is_step_of, plan_of, slots, target, is_empty, is_free, lowest_free, free_slot, highest_from, highest, put_off, next_xid, unused_xid, xid_after, last_xid}
 use Rattle.n41_model.specs.Calls.{command, owner, all_answered}
 use Rattle.n41_model.specs.Due.{waits_from, any_waits, own_from, any_own, finishing}
 use Rattle.n41_model.proofs.Slots.{Seats}
-use Rattle.n41_view.specs.View.{view, held_of, slot_of, slots_from, seat_of, seats_from, put_offs_of}
-use Rattle.n41_view.specs.Step.{requests}
+use Rattle.n41_view.specs.View.{view, held_of, slot_of, slots_from, seats_from, put_offs_of}
 use Rattle.n41_view.specs.Due.{all_idle, finishing_in, waits_held, any_waiting, owns_held, any_owned, is_free_slot, first_free, highest_in, put_off_in, xid_in}
 use Rattle.n41_view.specs.declared.tables.Slot.{Slot}
 use Rattle.n41_view.proofs.Lists.{empty_is_none}

@@ -1,20 +1,18 @@
 -- What a reply says by the tables is what it says by the journal.
-use Rattle.std.proofs.Common.{◌≡◌, ◌⊎◌, inl, inr, ℕ, zero, suc, ◌+◌, ◌<◌, ◌==◌, Bool, true, false, ◌&&◌, ◌||◌, not, List, [], ◌∷◌, map, Option, Some, None, if◌then◌else◌, refl, sym, ◌∙◌, ap, subst, arith}
+use Rattle.std.proofs.Common.{◌≡◌, inl, inr, ℕ, ◌==◌, Bool, true, false, List, Option, Some, None, refl, sym, ◌∙◌, subst, arith}
 use Rattle.std.proofs.lemmas.Bool.Decides.{nat_tests}
-use Rattle.n41_types.specs.declared.plans.Plan.{Plan}
 use Rattle.n41_types.specs.declared.plans.Request.{Request}
 use Rattle.n41_types.specs.declared.plans.SlotUse.{SlotUse}
 use Rattle.n41_results.specs.declared.replies.Reply.{Reply}
-use Rattle.n41_results.specs.declared.shapes.Shape.{Shape}
 use Rattle.n41_results.specs.Shapes.{shape_of}
 use Rattle.n41_journal.specs.declared.events.Event.{Event}
 use Rattle.n41_model.specs.Replies.{verdict_of, bare_verdict_of}
-use Rattle.n41_model.specs.Requests.{request, bare_verdict, verdict, bares, bare, outs, out, is_on, is_bare, is_use_of, is_bare_use, has_xid, retried, sent, put_at, doubt, first}
+use Rattle.n41_model.specs.Requests.{request, bare_verdict, verdict, bares, bare, outs, out, is_on, has_xid, retried, sent, put_at, doubt}
 use Rattle.n41_model.specs.Sessions.{slots, plan_of}
 use Rattle.n41_model.specs.Calls.{owner, owner_at, ledger, slot_in}
-use Rattle.n41_model.specs.Kept.{MayTake, IsAwaited, WaitsBare, WaitsOn}
+use Rattle.n41_model.specs.Kept.{MayTake, IsAwaited}
 use Rattle.n41_model.proofs.Slots.{Seats}
-use Rattle.n41_view.specs.View.{View, view, held_of, slots_from}
+use Rattle.n41_view.specs.View.{view, held_of, slots_from}
 use Rattle.n41_view.specs.Step.{has, held_with, Said, said_of, said}
 use Rattle.n41_view.specs.declared.tables.Held.{Held}
 use Rattle.n41_view.proofs.Lists.{first_on, first_bare}

@@ -1,5 +1,5 @@
 -- The tables after a reply.
-use Rattle.std.proofs.Common.{◌≡◌, ◌⊎◌, inl, inr, ℕ, zero, suc, ◌+◌, ◌-◌, ◌==◌, min, Bool, true, false, ◌&&◌, ◌||◌, not, List, [], ◌∷◌, map, Option, Some, None, if◌then◌else◌, refl, sym, ◌∙◌, ap, subst, arith}
+use Rattle.std.proofs.Common.{◌≡◌, ℕ, zero, suc, ◌+◌, ◌-◌, min, Bool, true, false, ◌&&◌, List, ◌∷◌, map, Option, Some, None, if◌then◌else◌, refl, sym, ◌∙◌, ap}
 use Rattle.std.specs.Prelude.{is_some}
 use Rattle.n41_types.specs.declared.plans.Request.{Request}
 use Rattle.n41_results.specs.declared.replies.Reply.{Reply}
@@ -10,20 +10,16 @@ use Rattle.n41_model.specs.declared.words.Phase.{Phase}
 use Rattle.n41_model.specs.declared.words.Phase.TheVariants.{Down, Binding, Session, ClientId, Settling, Reclaiming, Completing, Running, Dead}
 use Rattle.n41_model.specs.declared.words.Sent.{Sent}
 use Rattle.n41_model.specs.Replies.{is_final, gives_back, sequence_status}
-use Rattle.n41_model.specs.Requests.{moment, used, retried, sent, put_at, doubt, made, sent_after, bares, bare, outs, out, knows, has_xid, first, without, request, bare_verdict, verdict, session_in}
+use Rattle.n41_model.specs.Requests.{moment, used, retried, sent, put_at, doubt, made, sent_after, bares, bare, outs, out, knows, has_xid, request, verdict, session_in}
 use Rattle.n41_model.specs.Sessions.{slots, phases, took_phase, plan_of, worked}
 use Rattle.n41_model.specs.Calls.{Call, call, owner, owner_at, slot_in, ledger, took_call, is_caller}
 use Rattle.n41_model.specs.Kept.{MayTake}
 use Rattle.n41_model.proofs.Slots.{Seats}
 use Rattle.n41_view.specs.View.{View, view, facts_of, held_of, slot_of, slots_from, seat_of, seat_with, seats_from}
 use Rattle.n41_view.specs.Step.{has, holds, counted, took_facts, took_bare, took_held, took_slot, took_seat, new_slots, slots_made, reply_phase, Said, said, step}
-use Rattle.n41_view.specs.declared.tables.Facts.{Facts}
-use Rattle.n41_view.specs.declared.tables.Held.{Held}
-use Rattle.n41_view.specs.declared.tables.Seat.{Seat}
-use Rattle.n41_view.specs.declared.tables.Slot.{Slot}
 use Rattle.n41_view.proofs.Lists.{one_on, one_bare, knows_is, without_is}
 use Rattle.n41_view.proofs.Known.{Known}
-use Rattle.n41_view.proofs.Lookups.{parts, slot_with, slot_is, slot_same, held_same, tables, tables_are, slots_map, seats_map, holds_is}
+use Rattle.n41_view.proofs.Lookups.{parts, slot_is, held_same, tables, tables_are, slots_map, seats_map, holds_is}
 use Rattle.n41_view.proofs.Told.{told, said_told}
 
 -- ---- facts
@@ -133,9 +129,9 @@ took_seat_at n js c p d y b e =
     let f : call n (Took c p y ∷ js) d ≡ (if b then took_call (moment js) (plan_of js y) (verdict js y) y (call n js d) else call n js d) = ap (λ (z : Bool). if z then took_call (moment js) (plan_of js y) (verdict js y) y (call n js d) else call n js d) e in
     let g = ap (λ (k : Call). seat_with n js d k) (sym f) in
     a ∙ (both b ∙ g) where
-  both : (b : Bool) → (if b then seat_with n js d (took_call (moment js) (plan_of js y) (verdict js y) y (call n js d)) else seat_of n js d) ≡ seat_with n js d (if b then took_call (moment js) (plan_of js y) (verdict js y) y (call n js d) else call n js d)
-  both true = refl
-  both false = refl
+      both : (b : Bool) → (if b then seat_with n js d (took_call (moment js) (plan_of js y) (verdict js y) y (call n js d)) else seat_of n js d) ≡ seat_with n js d (if b then took_call (moment js) (plan_of js y) (verdict js y) y (call n js d) else call n js d)
+      both true = refl
+      both false = refl
 
 pub took_seat_is : (n : ℕ) (js : List Event) (c p d : ℕ) (y : Reply) → took_seat (moment js) (told n js y) y (seat_of n js d) ≡ seat_of n (Took c p y ∷ js) d
 took_seat_is n js c p d y = took_seat_at n js c p d y (is_caller (asked_by n js y) d) refl

@@ -1,5 +1,5 @@
 -- What is due, from the tables alone.
-use Rattle.std.specs.Prelude.{◌≡◌, ℕ, zero, suc, ◌+◌, max, Bool, true, false, ◌&&◌, ◌||◌, not, List, [], ◌∷◌, length, Option, Some, None, if◌then◌else◌, nat_le, nat_lt, is_some, is_none, slice_get}
+use Rattle.std.specs.Prelude.{ℕ, suc, ◌+◌, max, Bool, true, false, ◌&&◌, ◌||◌, not, List, [], ◌∷◌, length, Option, Some, None, if◌then◌else◌, nat_le, nat_lt, is_some, is_none, slice_get}
 use Rattle.n41_types.specs.declared.plans.Plan.{Plan}
 use Rattle.n41_types.specs.declared.plans.Plan.TheVariants as plan
 use Rattle.n41_types.specs.declared.plans.Request.{Request}
@@ -81,9 +81,13 @@ xid_in w = unused_xid (requests w) (xid_after w.facts.last_xid) (suc (length (re
 
 abbrev pub on_slot : Setup → View → Plan → Option SessionMade → Option Slot → Option ℕ → Option Request
 on_slot u w p (Some m) (Some s) (Some x) = Some (record {
-  xid = x; uid = u.uid; gid = u.gid; minor = 1;
+  xid = x;
+  uid = u.uid;
+  gid = u.gid;
+  minor = 1;
   slot = Some (record { sid = m.sid; slot = s.number; turn = s.used + 1; highest = highest_in w.slots s.number; cache = is_cached (class_of p) });
-  plan = p })
+  plan = p;
+})
 on_slot u w p m s x = None
 
 -- a new request with this plan on the lowest slot that is free

@@ -16,9 +16,9 @@ use Rattle.n41_view.specs.declared.tables.Slot.{Slot}
 -- the tables
 pub record View : Type 0 where
   pub facts : Facts
-  pub bare : Option Request       -- the request without a slot that is out
-  pub slots : List Slot           -- slot n is the n-th
-  pub seats : List Seat           -- caller c is the c-th
+  pub bare : Option Request  -- the request without a slot that is out
+  pub slots : List Slot  -- slot n is the n-th
+  pub seats : List Seat  -- caller c is the c-th
 
 abbrev pub put_offs_of : List Event → PutOffs
 put_offs_of js = record {
