@@ -1,7 +1,6 @@
 -- The causes of answers, by the tables and by the journal.
-use Rattle.std.proofs.Common.{◌≡◌, ◌↔◌, ℕ, ◌<◌, ◌≤◌, Bool, true, false, ◌&&◌, List, Option, Some, None, slice_get, refl, sym, ◌∙◌, subst, arith}
+use Rattle.std.proofs.Common.{◌≡◌, ◌↔◌, ℕ, ◌≤◌, Bool, true, false, ◌&&◌, List, Option, Some, None, slice_get, refl, subst, arith}
 use Rattle.std.proofs.lemmas.Bool.Decides.{nat_tests}
-use Rattle.std.proofs.lemmas.Option.{slice_get_within}
 use Rattle.n41_types.specs.declared.commands.Answer.{Answer}
 use Rattle.n41_types.specs.declared.commands.Answer.TheVariants as answer
 use Rattle.n41_types.specs.declared.plans.Class.{Class}
@@ -17,7 +16,7 @@ use Rattle.n41_view.specs.View.{view, held_of, slots_from, seat_of, seats_from}
 use Rattle.n41_view.specs.Causes.{is_changing, doubts, any_doubt, CauseIn}
 use Rattle.n41_view.specs.declared.tables.Seat.{Seat}
 use Rattle.n41_view.proofs.Known.{Known}
-use Rattle.n41_view.proofs.Lookups.{some_held, any_below, seats_length, seat_below}
+use Rattle.n41_view.proofs.Lookups.{some_held, any_below, seat_at}
 
 and_three : (a b c : Bool) → (a && b && c) ≡ true → (a ≡ true) × (b ≡ true) × (c ≡ true)
 and_three true true true e = (refl, refl, refl)
@@ -90,10 +89,4 @@ cause_of n js c answer.NotOpen k = (λ h. h, λ h. h)
 cause_of n js c (answer.Breach p) k = (λ h. h, λ h. h)
 
 pub cause_is : (n : ℕ) (js : List Event) (c : ℕ) (s : Seat) (a : Answer) → Known js → slice_get (seats_from n js 0 n) c ≡ Some s → CauseIn (view n js) s a ↔ HasCause n js c a
-cause_is n js c s a k e =
-    let w = slice_get_within (seats_from n js 0 n) c s e in
-    let l = seats_length n js 0 n in
-    let b : c < n = omega arith in
-    let d = seat_below n js n c b in
-    let f : seat_of n js c ≡ s = (let g : Some (seat_of n js c) ≡ Some s = sym d ∙ e in cc) in
-    subst (λ (z : Seat). CauseIn (view n js) z a ↔ HasCause n js c a) f (cause_of n js c a k)
+cause_is n js c s a k e = subst (λ (z : Seat). CauseIn (view n js) z a ↔ HasCause n js c a) (seat_at n js n c s e).1 (cause_of n js c a k)

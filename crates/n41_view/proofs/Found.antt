@@ -1,8 +1,10 @@
 -- What has an xid and is out is the one request that is found by it.
-use Rattle.std.proofs.Common.{◌≡◌, ℕ, Bool, true, false, List, Option, Some, None, refl, ◌∙◌, ap, subst, arith}
+use Rattle.std.proofs.Common.{◌≡◌, ◌==◌, ℕ, Bool, true, false, List, Option, Some, None, refl, ◌∙◌, ap, subst, arith}
 use Rattle.std.proofs.lemmas.Bool.Decides.{nat_tests}
 use Rattle.n41_types.specs.declared.plans.Request.{Request}
 use Rattle.n41_types.specs.declared.plans.SlotUse.{SlotUse}
+use Rattle.n41_results.specs.declared.replies.Reply.{Reply}
+use Rattle.n41_results.specs.Shapes.{shape_of}
 use Rattle.n41_journal.specs.declared.events.Event.{Event}
 use Rattle.n41_model.specs.Requests.{request, bares, bare, outs, out, is_on, is_use_of, is_bare_use, has_xid}
 use Rattle.n41_model.proofs.Slots.{Seats}
@@ -18,6 +20,13 @@ no_use (Some u) e = absurd (cc)
 pub use_on : (o : Option SlotUse) (n : ℕ) → is_use_of o n ≡ true → (u : SlotUse) × (o ≡ Some u) × (u.slot ≡ n)
 use_on None n e = absurd (cc)
 use_on (Some u) n e = (u, refl, grind (arith, nat_tests, e))
+
+-- a reply that fits a request has its xid
+pub fits_xid : (r : Request) (y : Reply) → shape_of r y ≡ None → r.xid ≡ y.xid
+fits_xid r y e = at (r.xid == y.xid) refl where
+  at : (b : Bool) → (r.xid == y.xid) ≡ b → r.xid ≡ y.xid
+  at true q = grind (arith, nat_tests, q)
+  at false q = absurd (let h : Some _ ≡ None = (rw q at e) in cc)
 
 -- the request that is found
 pub found_bare : (js : List Event) (x : ℕ) (r : Request) → Known js → bare js ≡ Some r → r.xid ≡ x → request js x ≡ Some r

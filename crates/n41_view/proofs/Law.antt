@@ -7,12 +7,13 @@ use Rattle.n41_model.specs.Kept.{May}
 use Rattle.n41_model.proofs.Slots.{Seats, seats}
 use Rattle.n41_view.specs.View.{view}
 use Rattle.n41_view.specs.Step.{step}
-use Rattle.n41_view.specs.Laws.{ViewSteps, DueFromView, EndFromView, CausesFromView, AwaitedFromView, OldFromView}
+use Rattle.n41_view.specs.Laws.{ViewSteps, DueFromView, EndFromView, CausesFromView, AwaitedFromView, OldFromView, MayFromView}
 use Rattle.n41_view.proofs.Awaited.{awaited_is, old_is}
 use Rattle.n41_view.proofs.Causes.{cause_is}
 use Rattle.n41_view.proofs.Dues.{due_is, ended_is}
 use Rattle.n41_view.proofs.Fresh.{put_placed}
 use Rattle.n41_view.proofs.Known.{Known, known}
+use Rattle.n41_view.proofs.Mays.{may_is}
 use Rattle.n41_view.proofs.PutStep.{put_step}
 use Rattle.n41_view.proofs.TookStep.{took_step}
 use Rattle.n41_view.proofs.OtherSteps.{began_step, dialed_step, failed_step, broke_step, ticked_step, answered_step, quit_step}
@@ -47,3 +48,6 @@ awaited_law u js x r k = awaited_is u.callers js x r (seats u js k) (known u js 
 
 pub old_law : OldFromView
 old_law u js x k = old_is u.callers js x (known u js k)
+
+pub may_law : MayFromView
+may_law u js e k = may_is u js e (seats u js k) (known u js k)

@@ -1,7 +1,7 @@
 -- What the tables tell when they are looked into.
 use Rattle.std.proofs.Common.{◌≡◌, ℕ, zero, suc, ◌+◌, ◌<◌, ◌≤◌, ◌==◌, Bool, true, false, ◌||◌, List, ◌++◌, map, length, Option, Some, None, slice_get, refl, sym, ◌∙◌, ap, subst, arith}
 use Rattle.std.proofs.lemmas.Bool.Decides.{nat_tests}
-use Rattle.std.proofs.lemmas.Option.{slice_get_past}
+use Rattle.std.proofs.lemmas.Option.{slice_get_past, slice_get_within}
 use Rattle.n41_types.specs.declared.plans.Request.{Request}
 use Rattle.n41_journal.specs.declared.events.Event.{Event}
 use Rattle.n41_model.specs.Requests.{used, retried, sent, put_at, doubt, bares, bare, outs, out}
@@ -94,6 +94,26 @@ seat_below n js k c h = let e : 0 + c ≡ c = omega arith in subst (λ (m : ℕ)
 
 pub seat_past : (n : ℕ) (js : List Event) (k c : ℕ) → k ≤ c → slice_get (seats_from n js 0 k) c ≡ None
 seat_past n js k c h = slice_get_past (seats_from n js 0 k) c (rw (seats_length n js 0 k) h)
+
+-- what stands in the tables is the caller of that number
+pub seat_at : (n : ℕ) (js : List Event) (k c : ℕ) (s : Seat) → slice_get (seats_from n js 0 k) c ≡ Some s → (c < k) × (seat_of n js c ≡ s)
+seat_at n js k c s e =
+    let w = slice_get_within (seats_from n js 0 k) c s e in
+    let l = seats_length n js 0 k in
+    let b : c < k = omega arith in
+    let d = seat_below n js k c b in
+    let g : Some (seat_of n js c) ≡ Some s = sym d ∙ e in
+    (b, cc)
+
+-- and the slot of that number
+pub slot_at : (n : ℕ) (js : List Event) (k i : ℕ) (s : Slot) → slice_get (slots_from n js 0 k) i ≡ Some s → (i < k) × (slot_of n js i ≡ s)
+slot_at n js k i s e =
+    let w = slice_get_within (slots_from n js 0 k) i s e in
+    let l = slots_length n js 0 k in
+    let b : i < k = omega arith in
+    let d = slot_below n js k i b in
+    let g : Some (slot_of n js i) ≡ Some s = sym d ∙ e in
+    (b, cc)
 
 -- ---- by xid
 

@@ -1,10 +1,9 @@
 -- What a reply says by the tables is what it says by the journal.
-use Rattle.std.proofs.Common.{◌≡◌, inl, inr, ℕ, ◌==◌, Bool, true, false, List, Option, Some, None, refl, sym, ◌∙◌, subst, arith}
+use Rattle.std.proofs.Common.{◌≡◌, inl, inr, ℕ, true, false, List, Option, Some, None, refl, sym, ◌∙◌, subst, arith}
 use Rattle.std.proofs.lemmas.Bool.Decides.{nat_tests}
 use Rattle.n41_types.specs.declared.plans.Request.{Request}
 use Rattle.n41_types.specs.declared.plans.SlotUse.{SlotUse}
 use Rattle.n41_results.specs.declared.replies.Reply.{Reply}
-use Rattle.n41_results.specs.Shapes.{shape_of}
 use Rattle.n41_journal.specs.declared.events.Event.{Event}
 use Rattle.n41_model.specs.Replies.{verdict_of, bare_verdict_of}
 use Rattle.n41_model.specs.Requests.{request, bare_verdict, verdict, bares, bare, outs, out, is_on, has_xid, retried, sent, put_at, doubt}
@@ -17,7 +16,7 @@ use Rattle.n41_view.specs.Step.{has, held_with, Said, said_of, said}
 use Rattle.n41_view.specs.declared.tables.Held.{Held}
 use Rattle.n41_view.proofs.Lists.{first_on, first_bare}
 use Rattle.n41_view.proofs.Known.{Known}
-use Rattle.n41_view.proofs.Found.{no_use, use_on, found_bare, found_on, not_on, not_bare, only_on}
+use Rattle.n41_view.proofs.Found.{fits_xid, no_use, use_on, found_bare, found_on, not_on, not_bare, only_on}
 use Rattle.n41_view.proofs.Lookups.{parts, found_from, absent_from}
 
 -- what a reply says by the journal
@@ -29,12 +28,6 @@ told_bare n js y r e f = rw (e, f) refl
 
 told_on : (n : ℕ) (js : List Event) (y : Reply) (r : Request) (u : SlotUse) → request js y.xid ≡ Some r → r.slot ≡ Some u → told n js y ≡ record { bare = None; slot = Some (verdict_of r (retried js u.slot) y); plan = r.plan; owner = owner n js u.slot }
 told_on n js y r u e f = rw (e, f) refl
-
-fits_xid : (r : Request) (y : Reply) → shape_of r y ≡ None → r.xid ≡ y.xid
-fits_xid r y e = at (r.xid == y.xid) refl where
-  at : (b : Bool) → (r.xid == y.xid) ≡ b → r.xid ≡ y.xid
-  at true q = grind (arith, nat_tests, q)
-  at false q = absurd (let h : Some _ ≡ None = (rw q at e) in cc)
 
 -- what the tables say of one request
 said_bare : (r : Request) (y : Reply) → has_xid y.xid r ≡ true → said_of (Some r) None y ≡ record { bare = Some (bare_verdict_of r.plan y); slot = None; plan = r.plan; owner = None }

@@ -7,11 +7,12 @@ use Rattle.n41_model.specs.declared.words.Item.{Item}
 use Rattle.n41_model.specs.declared.words.Setup.{Setup}
 use Rattle.n41_model.specs.Due.{due, has_ended}
 use Rattle.n41_model.specs.Answers.{HasCause}
-use Rattle.n41_model.specs.Kept.{Kept, IsAwaited, IsOld}
+use Rattle.n41_model.specs.Kept.{Kept, May, IsAwaited, IsOld}
 use Rattle.n41_view.specs.declared.tables.Seat.{Seat}
 use Rattle.n41_view.specs.Causes.{CauseIn, awaited_in, is_old_in}
 use Rattle.n41_view.specs.Due.{due_in, has_ended_in}
 use Rattle.n41_view.specs.View.{view}
+use Rattle.n41_view.specs.May.{MayIn}
 use Rattle.n41_view.specs.Step.{step}
 
 -- each event that may follow moves the tables of a journal by its step
@@ -37,3 +38,7 @@ AwaitedFromView = (u : Setup) (js : List Event) (x : ℕ) (r : Request) → Kept
 -- and so is what is old
 abbrev pub OldFromView : Type 0
 OldFromView = (u : Setup) (js : List Event) (x : ℕ) → Kept u js → (is_old_in (view u.callers js) x ≡ true) ↔ IsOld js x
+
+-- an event may follow by the tables where it may by the journal
+abbrev pub MayFromView : Type 0
+MayFromView = (u : Setup) (js : List Event) (e : Event) → Kept u js → MayIn u (view u.callers js) e ↔ May u js e

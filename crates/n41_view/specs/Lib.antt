@@ -3,3 +3,4 @@ pub mod Step
 pub mod Laws
 pub mod Due
 pub mod Causes
+pub mod May

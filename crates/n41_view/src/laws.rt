@@ -1,4 +1,4 @@
-ghost use Rattle.n41_view.specs.Laws.{ViewSteps, DueFromView, EndFromView, CausesFromView, AwaitedFromView, OldFromView};
+ghost use Rattle.n41_view.specs.Laws.{ViewSteps, DueFromView, EndFromView, CausesFromView, AwaitedFromView, OldFromView, MayFromView};
 
 /// A law of the tables that a journal fills: each event of a client that keeps its rules moves them by its step, which looks at the
 /// tables and the event alone.
@@ -29,4 +29,9 @@ pub fn the_view_tells_what_is_awaited()
 /// A law: a request is old by the tables where it is by the journal.
 pub fn the_view_tells_what_is_old()
     ensures { OldFromView }
+{}
+
+/// A law: an event may follow by the tables where it may by the journal.
+pub fn the_view_tells_what_may_follow()
+    ensures { MayFromView }
 {}
