@@ -16,7 +16,7 @@ last_of [] e (suc p) = grind (arith, nat_tests)
 last_of (x ∷ xs) e zero = grind (arith, nat_tests)
 last_of (x ∷ xs) e (suc p) = grind (arith, nat_tests, last_of xs e p)
 
-oldest_first : (js : List Event) (p : ℕ) → event_at js (suc p) ≡ slice_get (reverse js) p
+pub oldest_first : (js : List Event) (p : ℕ) → event_at js (suc p) ≡ slice_get (reverse js) p
 oldest_first [] p = refl
 oldest_first (e ∷ js) p = rw (reverse_onto js e [], last_of (reverse js) e p, length-reverse js) (grind (arith, nat_tests, oldest_first js p))
 
@@ -25,7 +25,7 @@ pub placed : (xs : List Event) (p : ℕ) → 0 < p → slice_get xs (p - 1) ≡ 
 placed xs p l = let e : suc (p - 1) ≡ p = omega (arith, l) in
     sym (ap (λ ys. slice_get ys (p - 1)) (reverse-reverse xs)) ∙ sym (oldest_first (reverse xs) (p - 1)) ∙ ap (event_at (reverse xs)) e
 
-longer : (later earlier : List Event) → BeginsWith later earlier → length earlier ≤ length later
+pub longer : (later earlier : List Event) → BeginsWith later earlier → length earlier ≤ length later
 longer [] earlier b = rw (← b) (omega arith)
 longer (e ∷ js) earlier (inl same) = rw (← same) (omega arith)
 longer (e ∷ js) earlier (inr b) = let l : _ = longer js earlier b in omega (arith, l)
@@ -35,7 +35,7 @@ places [] earlier p b l = ap (λ js. event_at js p) b
 places (e ∷ js) earlier p (inl same) l = ap (λ js. event_at js p) same
 places (e ∷ js) earlier p (inr b) l = grind (arith, nat_tests, places js earlier p b l, longer js earlier b)
 
-itself : (js : List Event) → BeginsWith js js
+pub itself : (js : List Event) → BeginsWith js js
 itself [] = refl
 itself (e ∷ js) = inl refl
 

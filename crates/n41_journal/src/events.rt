@@ -38,9 +38,17 @@ pub enum Event {
         request: Request,
     },
     /// A reply was taken.
-    Took { conn: u64, place: u64, reply: Reply },
+    Took {
+        conn: u64,
+        place: u64,
+        reply: Reply,
+    },
     /// A callback was taken.
-    CbTook { conn: u64, place: u64, call: CbCall },
+    CbTook {
+        conn: u64,
+        place: u64,
+        call: CbCall,
+    },
     /// The reply to a callback was handed to a connection.
     CbPut {
         conn: u64,
@@ -48,12 +56,19 @@ pub enum Event {
         reply: CbReply,
     },
     /// A connection was made.
-    Dialed { conn: u64 },
+    Dialed {
+        conn: u64,
+    },
     /// No connection could be made.
     DialFailed,
-    Broke { conn: u64, cause: Cause },
+    Broke {
+        conn: u64,
+        cause: Cause,
+    },
     /// The clock showed this moment.
-    Ticked { moment: u64 },
+    Ticked {
+        moment: u64,
+    },
     /// A command was answered.
     Answered {
         caller: u32,

@@ -125,5 +125,4 @@ impl Journal {
 pub fn keeps_places()
     ensures places { KeepsPlaces }
     ensures one { ContinuesByOne }
-{
-}
+{}

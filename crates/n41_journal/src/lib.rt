@@ -3,6 +3,8 @@
 
 mod events;
 mod journal;
+#[cfg(test)]
+mod tests;
 
 pub use events::{Cause, Event};
-pub use journal::{keeps_places, Journal};
+pub use journal::{Journal, keeps_places};

@@ -83,7 +83,7 @@ pub enum Verdict {
 }
 
 /// What a reply does to a request without a slot.
-#[derive(Clone, Copy, Debug, PartialEq, Eq)]
+#[derive(Clone, Copy, PartialEq, Eq)]
 pub enum BareVerdict {
     /// A client id, with the sequence of its first CREATE_SESSION.
     Named { client: u64, sequence: u32 },

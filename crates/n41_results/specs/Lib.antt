@@ -1,2 +1,3 @@
+pub mod Callbacks
 pub mod Results
 pub mod Shapes

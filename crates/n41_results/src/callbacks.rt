@@ -1,11 +1,13 @@
-ghost use Rattle.std.specs.Prelude.{◌≡◌};
+ghost use Rattle.std.specs.Prelude.{◌≡◌, ◌≢◌, MatchOption};
+ghost use Rattle.n41_results.specs.Callbacks.{number_of, cb_number_of, cb_status_of};
+ghost use Rattle.n41_results.specs.declared.callbacks.Unserved.{Unserved};
 
 use crate::sessions::Sequenced;
 use n41_types::{Bitmap, Fh, Sequence, SessionId, Stateid, Status};
 use std::alloc::AllocError;
 
 /// One call that a callback refers to, by its turn and slot (RFC 8881, referring_call4).
-#[derive(Clone, Copy, Debug, PartialEq, Eq)]
+#[derive(Clone, Copy, PartialEq, Eq)]
 pub struct ReferringCall {
     pub turn: u32,
     pub slot: u32,
@@ -126,7 +128,7 @@ impl Clone for CbArg {
 pub type CbArgs = Sequence<CbArg>;
 
 /// What comes behind the operations of a callback that were read.
-#[derive(Clone, Copy, Debug, PartialEq, Eq)]
+#[derive(Clone, Copy, PartialEq, Eq)]
 pub enum Tail {
     /// Nothing.
     Whole,
@@ -184,7 +186,7 @@ impl Clone for CbCall {
 }
 
 /// The operations of callbacks that have a number and are not served here (RFC 8881, nfs_cb_opnum4).
-#[derive(Clone, Copy, Debug, PartialEq, Eq)]
+#[derive(Clone, Copy, PartialEq, Eq)]
 pub enum Unserved {
     GetAttr = 3,
     LayoutRecall = 5,
@@ -196,8 +198,34 @@ pub enum Unserved {
     NotifyDevice = 14,
 }
 
+impl Unserved {
+    /// Its number on the wire.
+    pub fn number(self) -> u32
+        ensures { result ≡ number_of self }
+    {
+        self as u32
+    }
+
+    /// The operation with a number, if one of these has it.
+    pub fn of(number: u32) -> Option<Unserved>
+        ensures { MatchOption result ((op : Unserved) → number_of op ≢ number) (λ op. number_of op ≡ number) }
+    {
+        Some(match number {
+            3 => Unserved::GetAttr,
+            5 => Unserved::LayoutRecall,
+            6 => Unserved::Notify,
+            7 => Unserved::PushDeleg,
+            9 => Unserved::ObjectAvailable,
+            12 => Unserved::WantsCancelled,
+            13 => Unserved::NotifyLock,
+            14 => Unserved::NotifyDevice,
+            _ => return None,
+        })
+    }
+}
+
 /// The result of an operation of a callback (RFC 8881, nfs_cb_resop4).
-#[derive(Clone, Copy, Debug, PartialEq, Eq)]
+#[derive(Clone, Copy, PartialEq, Eq)]
 pub enum CbRes {
     Recall(Status),
     RecallAny(Status),
@@ -207,6 +235,34 @@ pub enum CbRes {
     Unserved { op: Unserved, status: Status },
     /// Its status is never OK.
     Illegal(Status),
+}
+
+impl CbRes {
+    /// The number of the operation that it answers (RFC 8881, nfs_cb_opnum4).
+    pub fn number(&self) -> u32
+        ensures { result ≡ cb_number_of self.now }
+    {
+        match self {
+            CbRes::Recall(_) => 4,
+            CbRes::RecallAny(_) => 8,
+            CbRes::RecallSlot(_) => 10,
+            CbRes::Sequence(_) => 11,
+            CbRes::Unserved { op, .. } => op.number(),
+            CbRes::Illegal(_) => 10044,
+        }
+    }
+
+    /// Its status.
+    pub fn status(&self) -> Status
+        ensures { result ≡ cb_status_of self.now }
+    {
+        match self {
+            CbRes::Recall(status) | CbRes::RecallAny(status) | CbRes::RecallSlot(status) => *status,
+            CbRes::Sequence(Ok(_)) => Status::OK,
+            CbRes::Sequence(Err(status)) => *status,
+            CbRes::Unserved { status, .. } | CbRes::Illegal(status) => *status,
+        }
+    }
 }
 
 /// A list of results of a callback.

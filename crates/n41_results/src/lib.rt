@@ -8,6 +8,8 @@ mod replies;
 mod results;
 mod sessions;
 mod shapes;
+#[cfg(test)]
+mod tests;
 
 pub use callbacks::{
     CbArg, CbArgs, CbBody, CbCall, CbOps, CbRecall, CbRecallAny, CbReply, CbRes, CbResults,

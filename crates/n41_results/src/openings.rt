@@ -4,7 +4,7 @@ use n41_types::{Bitmap, Bytes, Stateid};
 use std::alloc::AllocError;
 
 /// How an operation changed a directory (RFC 8881, change_info4).
-#[derive(Clone, Copy, Debug, PartialEq, Eq)]
+#[derive(Clone, Copy, PartialEq, Eq)]
 pub struct ChangeInfo {
     pub atomic: bool,
     pub before: u64,
@@ -34,7 +34,7 @@ impl Clone for Ace {
 }
 
 /// How far a file may grow under a write delegation (RFC 8881, nfs_space_limit4).
-#[derive(Clone, Copy, Debug, PartialEq, Eq)]
+#[derive(Clone, Copy, PartialEq, Eq)]
 pub enum Limit {
     /// To so many bytes.
     Size(u64),
@@ -42,7 +42,7 @@ pub enum Limit {
 }
 
 /// Why there is no delegation (RFC 8881, why_no_delegation4).
-#[derive(Clone, Copy, Debug, PartialEq, Eq)]
+#[derive(Clone, Copy, PartialEq, Eq)]
 pub enum Why {
     /// Whether the server will tell when there is no contention any more.
     Contention(bool),

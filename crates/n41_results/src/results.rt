@@ -7,7 +7,7 @@ use n41_types::{Attrs, Bitmap, Bytes, Fh, Operation, Owner, Sequence, Stateid, S
 use std::alloc::AllocError;
 
 /// The kinds of a lock on the wire (RFC 8881, nfs_lock_type4). The last two are those of a caller that waits.
-#[derive(Clone, Copy, Debug, PartialEq, Eq)]
+#[derive(Clone, Copy, PartialEq, Eq)]
 pub enum LockType {
     Read = 1,
     Write = 2,
@@ -139,14 +139,14 @@ impl Clone for Listing {
 }
 
 /// What RENAME answers: how it changed the two directories (RFC 8881, RENAME4resok).
-#[derive(Clone, Copy, Debug, PartialEq, Eq)]
+#[derive(Clone, Copy, PartialEq, Eq)]
 pub struct Renamed {
     pub source: ChangeInfo,
     pub target: ChangeInfo,
 }
 
 /// What WRITE answers (RFC 8881, WRITE4resok). `committed` is UNSTABLE 0, DATA_SYNC 1 or FILE_SYNC 2.
-#[derive(Clone, Copy, Debug, PartialEq, Eq)]
+#[derive(Clone, Copy, PartialEq, Eq)]
 pub struct Written {
     pub count: u32,
     pub committed: u32,

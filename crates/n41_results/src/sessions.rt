@@ -4,7 +4,7 @@ use n41_types::{Bytes, SessionId};
 use std::alloc::AllocError;
 
 /// The sizes of one direction of a session (RFC 8881, channel_attrs4). Sizes are in bytes.
-#[derive(Clone, Copy, Debug, PartialEq, Eq)]
+#[derive(Clone, Copy, PartialEq, Eq)]
 pub struct Channel {
     pub header_pad: u32,
     pub request_max: u32,
@@ -72,7 +72,7 @@ impl Clone for Identity {
 }
 
 /// What CREATE_SESSION answers (RFC 8881, CREATE_SESSION4resok).
-#[derive(Clone, Copy, Debug, PartialEq, Eq)]
+#[derive(Clone, Copy, PartialEq, Eq)]
 pub struct SessionMade {
     pub sid: SessionId,
     pub sequence: u32,
@@ -82,7 +82,7 @@ pub struct SessionMade {
 }
 
 /// What BIND_CONN_TO_SESSION answers (RFC 8881, BIND_CONN_TO_SESSION4resok). The directions are FORE 1, BACK 2 and BOTH 3.
-#[derive(Clone, Copy, Debug, PartialEq, Eq)]
+#[derive(Clone, Copy, PartialEq, Eq)]
 pub struct Bound {
     pub sid: SessionId,
     pub direction: u32,
@@ -90,7 +90,7 @@ pub struct Bound {
 }
 
 /// What SEQUENCE answers (RFC 8881, SEQUENCE4resok). The turn is its sequenceid.
-#[derive(Clone, Copy, Debug, PartialEq, Eq)]
+#[derive(Clone, Copy, PartialEq, Eq)]
 pub struct Sequenced {
     pub sid: SessionId,
     pub turn: u32,

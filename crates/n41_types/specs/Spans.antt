@@ -10,3 +10,8 @@ pub record Extent : Type 0 where
 abbrev pub IsLength : Option ℕ → Type 0
 IsLength None = Unit {0}
 IsLength (Some n) = n < 2 ^ 64 - 1
+
+-- the number that a length has on the wire (RFC 8881, length4)
+abbrev pub length_on_wire : Option ℕ → ℕ
+length_on_wire None = 2 ^ 64 - 1
+length_on_wire (Some n) = n

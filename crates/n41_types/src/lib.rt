@@ -12,6 +12,8 @@ mod plans;
 mod sequence;
 mod spans;
 mod statuses;
+#[cfg(test)]
+mod tests;
 
 pub use attributes::{Attrs, Bitmap};
 pub use bytes::Bytes;

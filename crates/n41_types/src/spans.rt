@@ -1,3 +1,6 @@
+ghost use Rattle.std.specs.Prelude.{◌≡◌};
+ghost use Rattle.n41_types.specs.Spans.{length_on_wire};
+
 use std::marker::Model;
 
 /// How a file is open.
@@ -32,4 +35,26 @@ impl Model for Span {
     ghost invariant = { λ s. IsLength s.len };
 
     ghost inverse = { λ e. record { from = e.from; len = e.len } };
+}
+
+impl Span {
+    /// The span of an offset and a length on the wire.
+    pub fn of_wire(offset: u64, length: u64) -> Span
+        ensures from { result.from ≡ offset }
+        ensures len { length_on_wire result.len ≡ length }
+    {
+        let len = if length == u64::MAX {
+            None
+        } else {
+            Some(length)
+        };
+        Span { from: offset, len }
+    }
+
+    /// Its length on the wire, where all ones is to the end.
+    pub fn wire_length(self) -> u64
+        ensures { result ≡ length_on_wire self.len }
+    {
+        self.len.unwrap_or(u64::MAX)
+    }
 }
