@@ -5,7 +5,7 @@ use n41_results::SessionMade;
 use n41_types::{Answer, Command, Request};
 
 /// The moments at which the last request of a phase was put off, where none was put since.
-#[derive(Clone, Copy, Debug, PartialEq, Eq)]
+#[derive(Clone, Copy, PartialEq, Eq)]
 pub struct PutOffs {
     pub binding: Option<u64>,
     pub session: Option<u64>,
@@ -14,7 +14,7 @@ pub struct PutOffs {
 }
 
 /// What a journal says of connections, moments, phases and sessions. Moments are in seconds.
-#[derive(Clone, Copy, Debug, PartialEq, Eq)]
+#[derive(Clone, Copy, PartialEq, Eq)]
 pub struct Facts {
     /// The connection that stands.
     pub standing: Option<u64>,
