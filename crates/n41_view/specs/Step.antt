@@ -1,0 +1,332 @@
+-- The tables after an event, from the tables before it and the event alone.
+use Rattle.std.specs.Prelude.{ℕ, zero, suc, ◌+◌, ◌-◌, ◌==◌, min, Bool, true, false, ◌&&◌, ◌||◌, not, List, [], ◌∷◌, ◌++◌, map, Option, Some, None, if◌then◌else◌, nat_lt, slice_get}
+use Rattle.n41_types.specs.declared.commands.Command.{Command}
+use Rattle.n41_types.specs.declared.plans.Plan.{Plan}
+use Rattle.n41_types.specs.declared.plans.Plan.TheVariants as plan
+use Rattle.n41_types.specs.declared.plans.Request.{Request}
+use Rattle.n41_results.specs.declared.replies.Reply.{Reply}
+use Rattle.n41_results.specs.declared.sessions.SessionMade.{SessionMade}
+use Rattle.n41_journal.specs.declared.events.Event.{Event}
+use Rattle.n41_journal.specs.declared.events.Event.TheVariants.{Began, Put, Took, CbTook, CbPut, Dialed, DialFailed, Broke, Ticked, Answered, Quit}
+use Rattle.n41_model.specs.declared.words.BareVerdict.{BareVerdict}
+use Rattle.n41_model.specs.declared.words.Phase.{Phase}
+use Rattle.n41_model.specs.declared.words.Phase.TheVariants.{Binding, Session, ClientId, Completing, Dead}
+use Rattle.n41_model.specs.declared.words.Sent.TheVariants.{Never, Waits}
+use Rattle.n41_model.specs.declared.words.Verdict.{Verdict}
+use Rattle.n41_model.specs.Replies.{is_final, gives_back, sequence_status, verdict_of, bare_verdict_of}
+use Rattle.n41_model.specs.Requests.{is_bare, is_on, turn_of, has_xid, knows, session_in, sent_after, is_waiting, slot_number}
+use Rattle.n41_model.specs.Sessions.{client_after, session_after, slots_after, bound_after, unbound_after, completed_after, completed_by, dialed_phase, broke_phase, worked, bare_phase, slot_phase, is_step_of, is_bare_delay, is_refused_complete, target_after}
+use Rattle.n41_model.specs.Calls.{Call, fresh_call, put_call, took_call, next_plan, is_plan, is_ready_call, is_caller, in_running}
+use Rattle.n41_model.specs.Answers.{breaks, place_or}
+use Rattle.n41_view.specs.View.{View}
+use Rattle.n41_view.specs.declared.tables.Facts.{Facts}
+use Rattle.n41_view.specs.declared.tables.Held.{Held}
+use Rattle.n41_view.specs.declared.tables.PutOffs.{PutOffs}
+use Rattle.n41_view.specs.declared.tables.Seat.{Seat}
+use Rattle.n41_view.specs.declared.tables.Slot.{Slot}
+
+-- ---- what is looked up in the tables
+
+abbrev pub has : ℕ → Option Request → Bool
+has x None = false
+has x (Some r) = has_xid x r
+
+abbrev pub request_in : Option Held → Option Request
+request_in None = None
+request_in (Some h) = Some h.request
+
+-- the request that is out on a slot has this xid
+abbrev pub holds : ℕ → Option Held → Bool
+holds x h = has x (request_in h)
+
+-- the first request on a slot with this xid
+abbrev pub held_with : List Slot → ℕ → Option Held
+held_with [] x = None
+held_with (s ∷ ss) x = if holds x s.held then s.held else held_with ss x
+
+abbrev pub held_at : Option Slot → Option Held
+held_at None = None
+held_at (Some s) = s.held
+
+abbrev pub alone : Option Request → List Request
+alone None = []
+alone (Some r) = r ∷ []
+
+abbrev pub held_requests : List Slot → List Request
+held_requests [] = []
+held_requests (s ∷ ss) = alone (request_in s.held) ++ held_requests ss
+
+-- all requests that are out
+abbrev pub requests : View → List Request
+requests w = alone w.bare ++ held_requests w.slots
+
+-- ---- whose a new request is
+
+-- what is known of a caller's command
+abbrev pub call_of : Seat → Call
+call_of s = record { busy = s.busy; since = s.since; attempts = s.attempts; earned = s.earned }
+
+abbrev pub with_call : Seat → Call → Seat
+with_call s k = record s { busy = k.busy; since = k.since; attempts = k.attempts; earned = k.earned }
+
+-- of two callers the one whose command began first
+abbrev pub sooner_seat : Option Seat → Seat → Seat
+sooner_seat None s = s
+sooner_seat (Some d) s = if nat_lt s.began_at d.began_at then s else d
+
+-- its command can go on, and this plan is its next
+abbrev pub wants : ℕ → Plan → Seat → Bool
+wants m p s = is_ready_call m s.command (call_of s) && is_plan (next_plan s.command) p
+
+-- the caller, of these and the best of those before, whose command began first and wants this plan
+abbrev pub chosen_from : ℕ → Plan → Option Seat → List Seat → Option Seat
+chosen_from m p best [] = best
+chosen_from m p best (s ∷ ss) = chosen_from m p (if wants m p s then Some (sooner_seat best s) else best) ss
+
+abbrev pub caller_in : Option Seat → Option ℕ
+caller_in None = None
+caller_in (Some s) = Some s.caller
+
+-- the request is not out yet on the slot that it is for
+abbrev pub is_new_in : View → Request → Option ℕ → Bool
+is_new_in w r None = true
+is_new_in w r (Some n) = not (holds r.xid (held_at (slice_get w.slots n)))
+
+-- the caller whose a request is that is put; None where it is the client's own or was put before
+abbrev pub new_owner : View → Request → Option ℕ
+new_owner w r =
+    if is_new_in w r (slot_number r.slot) then in_running w.facts.phase (caller_in (chosen_from w.facts.moment r.plan None w.seats)) else None
+
+-- ---- what a reply does
+
+-- the reply answers the request without a slot, and so does this
+abbrev pub bare_said : Option Request → Reply → Option BareVerdict
+bare_said None y = None
+bare_said (Some r) y = if has_xid y.xid r then Some (bare_verdict_of r.plan y) else None
+
+abbrev pub slot_said : Option Held → Reply → Option Verdict
+slot_said None y = None
+slot_said (Some h) y = Some (verdict_of h.request h.retried y)
+
+abbrev pub plan_held : Option Held → Plan
+plan_held None = plan.Renew
+plan_held (Some h) = h.request.plan
+
+-- the plan of the request that is answered
+abbrev pub plan_said : Option Request → Option Held → Reply → Plan
+plan_said None h y = plan_held h
+plan_said (Some r) h y = if has_xid y.xid r then r.plan else plan_held h
+
+abbrev pub owner_said : Option Held → Option ℕ
+owner_said None = None
+owner_said (Some h) = h.owner
+
+-- what a reply says: of a request without a slot, or of one with a slot, of which plan, and of which caller
+pub record Said : Type 0 where
+  pub bare : Option BareVerdict
+  pub slot : Option Verdict
+  pub plan : Plan
+  pub owner : Option ℕ
+
+abbrev pub said_of : Option Request → Option Held → Reply → Said
+said_of b h y = record { bare = bare_said b y; slot = slot_said h y; plan = plan_said b h y; owner = owner_said h }
+
+abbrev pub said : View → Reply → Said
+said w y = said_of w.bare (held_with w.slots y.xid) y
+
+-- ---- facts
+
+abbrev pub put_put_off : Plan → Phase → Option ℕ → Option ℕ
+put_put_off p q o = if is_step_of q p then None else o
+
+abbrev pub put_put_offs : Plan → PutOffs → PutOffs
+put_put_offs p o = record {
+  binding = put_put_off p Binding o.binding;
+  session = put_put_off p Session o.session;
+  client_id = put_put_off p ClientId o.client_id;
+  completing = put_put_off p Completing o.completing;
+}
+
+abbrev pub puts_off : Said → Bool
+puts_off a = is_bare_delay a.bare || is_refused_complete a.slot
+
+abbrev pub took_put_off : ℕ → Said → Phase → Option ℕ → Option ℕ
+took_put_off m a q o = if is_step_of q a.plan && puts_off a then Some m else o
+
+abbrev pub took_put_offs : ℕ → Said → PutOffs → PutOffs
+took_put_offs m a o = record {
+  binding = took_put_off m a Binding o.binding;
+  session = took_put_off m a Session o.session;
+  client_id = took_put_off m a ClientId o.client_id;
+  completing = took_put_off m a Completing o.completing;
+}
+
+abbrev pub reply_phase : Said → Phase → Phase → Phase
+reply_phase a Dead w = Dead
+reply_phase a p w = slot_phase a.plan a.slot (bare_phase a.bare p w)
+
+abbrev pub put_facts : View → Request → Facts → Facts
+put_facts w r f = record f {
+  puts = suc f.puts;
+  last_xid = if knows (requests w) r.xid then f.last_xid else r.xid;
+  bare_waits = if is_bare r then true else f.bare_waits;
+  bare_put_at = if is_bare r then f.moment else f.bare_put_at;
+  put_off = put_put_offs r.plan f.put_off;
+}
+
+abbrev pub took_facts : Said → Reply → Facts → Facts
+took_facts a y f = record f {
+  takes = suc f.takes;
+  heard = true;
+  rounds = 0;
+  bound = unbound_after a.slot (bound_after a.bare f.bound);
+  completed = completed_by a.plan a.slot (completed_after a.bare f.completed);
+  phase = reply_phase a f.phase f.work;
+  work = worked (reply_phase a f.phase f.work) f.work;
+  session = session_after a.bare f.session;
+  client = client_after a.bare f.client;
+  slots = slots_after (session_in a.bare) f.slots;
+  target = target_after (session_in a.bare) y.body f.target;
+  put_off = took_put_offs f.moment a f.put_off;
+  breach_at = place_or f.breach_at (if breaks a.slot a.bare then Some (suc f.events) else None);
+}
+
+-- a round ends
+abbrev pub ended_round : Facts → Facts
+ended_round f = record f { heard = false; rounds = if f.heard then 0 else suc f.rounds }
+
+abbrev pub dialed_facts : ℕ → Facts → Facts
+dialed_facts c f = record f {
+  standing = Some c;
+  dials = suc f.dials;
+  puts = 0;
+  takes = 0;
+  bound = false;
+  bare_waits = false;
+  phase = dialed_phase f.phase f.session f.client;
+  work = worked (dialed_phase f.phase f.session f.client) f.work;
+}
+
+abbrev pub broke_facts : Facts → Facts
+broke_facts f = record (ended_round f) {
+  standing = None;
+  bound = false;
+  bare_waits = false;
+  phase = broke_phase f.phase;
+  work = worked (broke_phase f.phase) f.work;
+}
+
+abbrev pub event_facts : View → Event → Facts → Facts
+event_facts w (Began c n k m) f = f
+event_facts w (Put c p r) f = put_facts w r f
+event_facts w (Took c p y) f = took_facts (said w y) y f
+event_facts w (CbTook c p x) f = record f { takes = suc f.takes }
+event_facts w (CbPut c p x) f = record f { puts = suc f.puts }
+event_facts w (Dialed c) f = dialed_facts c f
+event_facts w DialFailed f = ended_round f
+event_facts w (Broke c x) f = broke_facts f
+event_facts w (Ticked m) f = record f { moment = m }
+event_facts w (Answered c n a) f = f
+event_facts w Quit f = record f { quit = true }
+
+abbrev pub counted : Facts → Facts
+counted f = record f { events = suc f.events }
+
+-- ---- the request without a slot
+
+abbrev pub put_bare : Request → Option Request → Option Request
+put_bare r o = if is_bare r && not (has r.xid o) then Some r else o
+
+abbrev pub took_bare : Reply → Option Request → Option Request
+took_bare y o = if has y.xid o then None else o
+
+abbrev pub bare_step : Event → Option Request → Option Request
+bare_step (Put c p r) o = put_bare r o
+bare_step (Took c p y) o = took_bare y o
+bare_step e o = o
+
+-- ---- slots
+
+-- a request is put: at this moment, and where it is new it is this caller's
+abbrev pub put_held : ℕ → Request → Option ℕ → Option Held → Held
+put_held m r o None = record { request = r; retried = false; sent = Waits; put_at = m; doubt = false; owner = o }
+put_held m r o (Some h) =
+    if has_xid r.xid h.request
+    then record h { retried = true; sent = Waits; put_at = m }
+    else record { request = r; retried = false; sent = Waits; put_at = m; doubt = false; owner = o }
+
+abbrev pub put_slot : ℕ → Request → Option ℕ → Slot → Slot
+put_slot m r o s = if is_on r s.number then record { number = s.number; used = turn_of r.slot; held = Some (put_held m r o s.held) } else s
+
+abbrev pub took_held : ℕ → Reply → Option Held → Option Held
+took_held m y None = None
+took_held m y (Some h) =
+    if has_xid y.xid h.request then (if is_final y then None else Some (record h { sent = sent_after m (sequence_status y.body) })) else Some h
+
+abbrev pub took_slot : ℕ → Reply → Slot → Slot
+took_slot m y s = record {
+  number = s.number;
+  used = if holds y.xid s.held && gives_back y then s.used - 1 else s.used;
+  held = took_held m y s.held;
+}
+
+abbrev pub dialed_held : Option Held → Option Held
+dialed_held None = None
+dialed_held (Some h) = Some (record h { sent = Never })
+
+abbrev pub broke_held : Option Held → Option Held
+broke_held None = None
+broke_held (Some h) = Some (record h { sent = Never; doubt = h.doubt || is_waiting h.sent })
+
+abbrev pub dialed_slot : Slot → Slot
+dialed_slot s = record s { held = dialed_held s.held }
+
+abbrev pub broke_slot : Slot → Slot
+broke_slot s = record s { held = broke_held s.held }
+
+-- the slots of a new session
+abbrev pub new_slots : ℕ → ℕ → List Slot
+new_slots s zero = []
+new_slots s (suc k) = (record { number = s; used = 0; held = None }) ∷ new_slots (s + 1) k
+
+abbrev pub slots_made : Option SessionMade → List Slot → List Slot
+slots_made None ss = ss
+slots_made (Some m) ss = new_slots 0 (min 64 m.fore.requests_max)
+
+abbrev pub slots_step : View → Event → List Slot → List Slot
+slots_step w (Put c p r) ss = map (put_slot w.facts.moment r (new_owner w r)) ss
+slots_step w (Took c p y) ss = slots_made (session_in (said w y).bare) (map (took_slot w.facts.moment y) ss)
+slots_step w (Dialed c) ss = map dialed_slot ss
+slots_step w (Broke c x) ss = map broke_slot ss
+slots_step w e ss = ss
+
+-- ---- seats
+
+abbrev pub began_seat : ℕ → ℕ → Command → ℕ → Seat → Seat
+began_seat d n k at s =
+    if d == s.caller then with_call (record s { command = Some k; number = n; began_at = at }) fresh_call else s
+
+abbrev pub put_seat : Option ℕ → Seat → Seat
+put_seat o s = if is_caller o s.caller then with_call s (put_call (call_of s)) else s
+
+abbrev pub took_seat : ℕ → Said → Reply → Seat → Seat
+took_seat m a y s = if is_caller a.owner s.caller then with_call s (took_call m a.plan a.slot y (call_of s)) else s
+
+abbrev pub answered_seat : ℕ → Seat → Seat
+answered_seat d s = if d == s.caller then record s { command = None } else s
+
+abbrev pub seats_step : View → Event → List Seat → List Seat
+seats_step w (Began d n k m) ss = map (began_seat d n k (suc w.facts.events)) ss
+seats_step w (Put c p r) ss = map (put_seat (new_owner w r)) ss
+seats_step w (Took c p y) ss = map (took_seat w.facts.moment (said w y) y) ss
+seats_step w (Answered d n a) ss = map (answered_seat d) ss
+seats_step w e ss = ss
+
+-- the tables after an event
+abbrev pub step : View → Event → View
+step w e = record {
+  facts = counted (event_facts w e w.facts);
+  bare = bare_step e w.bare;
+  slots = slots_step w e w.slots;
+  seats = seats_step w e w.seats;
+}
