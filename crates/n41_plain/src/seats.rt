@@ -3,7 +3,7 @@ ghost use Rattle.n41_model.specs.Requests.{outs, bares, out, bare, knows};
 ghost use Rattle.n41_plain.specs.Seats.{seat_outs, is_at, ends, ends_by, ended, still};
 
 use crate::requests::{is_bare, is_on, made};
-use crate::slots::{is_bare_out, is_out};
+use crate::turns::{is_bare_out, is_out};
 use n41_journal::Event;
 use n41_model::is_final;
 use n41_results::Reply;

@@ -1,8 +1,9 @@
-ghost use Rattle.std.specs.Prelude.{◌≡◌, ◌≤◌};
+ghost use Rattle.std.specs.Prelude.{◌≡◌, ◌≤◌, option_copied};
+ghost use Rattle.n41_plain.specs.Plans.{plan_or};
 ghost use Rattle.n41_model.specs.Sessions.{raised, client_after, client, session_after, session, slots_after, slots, bound_after, unbound_after, bound, completes, is_complete, is_lease_time, plan_in, plan_of, completed_after, completed_by, completed, target, target_in, target_after};
 
 use crate::requests::{bare_verdict, made, request};
-use crate::slots::verdict;
+use crate::turns::verdict;
 use n41_journal::Event;
 use n41_model::{BareVerdict, KnownClient, Verdict};
 use n41_results::{Reply, ReplyBody, Res, SessionMade};
@@ -132,19 +133,19 @@ pub fn completes(status: Status) -> bool
 }
 
 /// Whether the plan asks for the lease time.
-pub fn is_lease_time(plan: &Plan) -> bool
-    ensures { result ≡ is_lease_time plan.now }
+pub fn is_lease_time(plan: Option<&Plan>) -> bool
+    ensures { result ≡ is_lease_time (plan_or (option_copied plan.entry)) }
 {
-    matches!(plan, Plan::LeaseTime)
+    matches!(plan, Some(Plan::LeaseTime))
 }
 
-/// The plan of the request that a reply answers.
-pub fn plan_of<'a>(events: &'a [Event], reply: &Reply) -> &'a Plan
-    ensures { result.now ≡ plan_of events.now reply.now }
+/// The plan of the request that a reply answers; None where it answers none.
+pub fn plan_of<'a>(events: &'a [Event], reply: &Reply) -> Option<&'a Plan>
+    ensures { plan_or (option_copied result) ≡ plan_of events.now reply.now }
 {
     match request(events, reply.xid) {
-        None => &Plan::Renew,
-        Some(asked) => &asked.plan,
+        None => None,
+        Some(asked) => Some(&asked.plan),
     }
 }
 
@@ -159,12 +160,12 @@ fn completed_after(verdict: Option<BareVerdict>, completed: bool) -> bool
 }
 
 /// Whether RECLAIM_COMPLETE is done after the verdict on a request with a slot and this plan.
-fn completed_by(plan: &Plan, verdict: Option<Verdict>, completed: bool) -> bool
-    ensures { result ≡ completed_by plan.now verdict completed }
+fn completed_by(plan: Option<&Plan>, verdict: Option<Verdict>, completed: bool) -> bool
+    ensures { result ≡ completed_by (plan_or (option_copied plan.entry)) verdict completed }
 {
     match verdict {
         Some(Verdict::Ran(status)) => {
-            matches!(plan, Plan::Complete) && completes(status) || completed
+            matches!(plan, Some(Plan::Complete)) && completes(status) || completed
         }
         _ => completed,
     }

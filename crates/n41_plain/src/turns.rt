@@ -8,6 +8,7 @@ use n41_results::Reply;
 use n41_types::{Request, SlotUse, Status};
 
 /// Whether a request with this xid is out on a slot.
+#[tactic(auto, using(crate::proofs::Ended::without_knows))]
 pub fn is_out(events: &[Event], slot: u32, xid: u32) -> bool
     ensures { result ≡ knows (outs events.now slot) xid }
 {
@@ -26,6 +27,7 @@ pub fn is_out(events: &[Event], slot: u32, xid: u32) -> bool
 }
 
 /// Whether a request without a slot and with this xid is out.
+#[tactic(auto, using(crate::proofs::Ended::without_knows))]
 pub fn is_bare_out(events: &[Event], xid: u32) -> bool
     ensures { result ≡ knows (bares events.now) xid }
 {

@@ -1,9 +1,10 @@
-ghost use Rattle.std.specs.Prelude.{◌≡◌};
+ghost use Rattle.std.specs.Prelude.{◌≡◌, option_copied};
+ghost use Rattle.n41_plain.specs.Plans.{plan_or};
 ghost use Rattle.n41_model.specs.Sessions.{dialed_phase, broke_phase, worked, bare_phase, slot_phase, next_phases, took_phase, phases, phase, is_step_of, is_bare_delay, is_refused_complete, is_put_off, put_off, passed};
 
 use crate::requests::{bare_verdict, moment};
 use crate::sessions::{client, completes, is_lease_time, plan_of, session};
-use crate::slots::verdict;
+use crate::turns::verdict;
 use n41_journal::Event;
 use n41_model::{BareVerdict, KnownClient, Phase, Verdict};
 use n41_results::{Reply, SessionMade};
@@ -59,8 +60,8 @@ fn bare_phase(verdict: Option<BareVerdict>, phase: Phase, work: Phase) -> Phase
 }
 
 /// The phase after the verdict on a request with a slot and this plan.
-fn slot_phase(plan: &Plan, verdict: Option<Verdict>, phase: Phase) -> Phase
-    ensures { result ≡ slot_phase plan.now verdict phase }
+fn slot_phase(plan: Option<&Plan>, verdict: Option<Verdict>, phase: Phase) -> Phase
+    ensures { result ≡ slot_phase (plan_or (option_copied plan.entry)) verdict phase }
 {
     match verdict {
         Some(Verdict::Breach) => Phase::Dead,
@@ -119,14 +120,14 @@ pub fn phase(events: &[Event]) -> Phase
 }
 
 /// Whether the plan is one of a request of this phase without a slot, or its RECLAIM_COMPLETE.
-pub fn is_step_of(phase: Phase, plan: &Plan) -> bool
-    ensures { result ≡ is_step_of phase plan.now }
+pub fn is_step_of(phase: Phase, plan: Option<&Plan>) -> bool
+    ensures { result ≡ is_step_of phase (plan_or (option_copied plan.entry)) }
 {
     match phase {
-        Phase::Binding => matches!(plan, Plan::Bind { .. }),
-        Phase::Session => matches!(plan, Plan::CreateSession { .. }),
-        Phase::ClientId => matches!(plan, Plan::ExchangeId { .. }),
-        Phase::Completing => matches!(plan, Plan::Complete),
+        Phase::Binding => matches!(plan, Some(Plan::Bind { .. })),
+        Phase::Session => matches!(plan, Some(Plan::CreateSession { .. })),
+        Phase::ClientId => matches!(plan, Some(Plan::ExchangeId { .. })),
+        Phase::Completing => matches!(plan, Some(Plan::Complete)),
         _ => false,
     }
 }
@@ -156,7 +157,7 @@ pub fn put_off(events: &[Event], phase: Phase) -> Option<u64>
 {
     match events {
         [] => None,
-        [Event::Put { request, .. }, ..] if is_step_of(phase, &request.plan) => None,
+        [Event::Put { request, .. }, ..] if is_step_of(phase, Some(&request.plan)) => None,
         [Event::Took { reply, .. }, older @ ..]
             if is_step_of(phase, plan_of(older, reply)) && is_put_off(older, reply) =>
         {
