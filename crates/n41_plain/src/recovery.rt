@@ -1,6 +1,7 @@
 ghost use Rattle.std.specs.Prelude.{◌≡◌, option_copied};
 ghost use Rattle.n41_plain.specs.Plans.{plan_or};
-ghost use Rattle.n41_model.specs.Sessions.{dialed_phase, broke_phase, worked, bare_phase, slot_phase, next_phases, took_phase, phases, phase, is_step_of, is_bare_delay, is_refused_complete, is_put_off, put_off, passed};
+ghost use Rattle.n41_model.specs.Requests.{verdict, bare_verdict};
+ghost use Rattle.n41_model.specs.Sessions.{plan_of, dialed_phase, broke_phase, worked, bare_phase, slot_phase, next_phases, took_phase, phases, phase, is_step_of, is_bare_delay, is_refused_complete, is_put_off, put_off, passed};
 
 use crate::requests::{bare_verdict, moment};
 use crate::sessions::{client, completes, is_lease_time, plan_of, session};
@@ -71,15 +72,22 @@ fn slot_phase(plan: Option<&Plan>, verdict: Option<Verdict>, phase: Phase) -> Ph
     }
 }
 
+/// The phase after a reply, where it is not Dead.
+fn moved_phase(events: &[Event], reply: &Reply, phase: Phase, work: Phase) -> Phase
+    ensures { result ≡ slot_phase (plan_of events.now reply.now) (verdict events.now reply.now) (bare_phase (bare_verdict events.now reply.now) phase work) }
+{
+    let after = bare_phase(bare_verdict(events, reply), phase, work);
+    slot_phase(plan_of(events, reply), verdict(events, reply), after)
+}
+
 /// The phase after a reply.
 fn took_phase(events: &[Event], reply: &Reply, phase: Phase, work: Phase) -> Phase
     ensures { result ≡ took_phase events.now reply.now phase work }
 {
-    if phase == Phase::Dead {
-        return Phase::Dead;
+    match phase {
+        Phase::Dead => Phase::Dead,
+        _ => moved_phase(events, reply, phase, work),
     }
-    let after = bare_phase(bare_verdict(events, reply), phase, work);
-    slot_phase(plan_of(events, reply), verdict(events, reply), after)
 }
 
 /// The phase with the last one that was neither Down nor Binding.

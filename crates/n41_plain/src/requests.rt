@@ -1,10 +1,20 @@
-ghost use Rattle.std.specs.Prelude.{◌≡◌, option_copied, length, ◌≤◌};
+ghost use Rattle.std.specs.Prelude.{◌≡◌, ◌∷◌, [], option_copied, MatchOption, length, ◌≤◌};
 ghost use Rattle.n41_model.specs.Requests.{standing, dials, puts, takes, moment, heard, rounds, quit, is_bare, is_bare_use, is_on, is_use_of, request, bare_verdict, bare_verdict_on, made, session_in};
 
 use n41_journal::Event;
 use n41_model::BareVerdict;
 use n41_results::{Reply, SessionMade};
 use n41_types::Request;
+
+/// The newest event, and those before it.
+pub fn newest(events: &[Event]) -> Option<(&Event, &[Event])>
+    ensures { MatchOption result (events.now ≡ []) (λ p. events.now ≡ p.0.now ∷ p.1.now) }
+{
+    match events {
+        [] => None,
+        [newest, older @ ..] => Some((newest, older)),
+    }
+}
 
 /// The connection that stands.
 pub fn standing(events: &[Event]) -> Option<u64>

@@ -1,43 +1,68 @@
-ghost use Rattle.std.specs.Prelude.{◌≡◌};
+ghost use Rattle.std.specs.Prelude.{◌≡◌, ◌==◌, ◌&&◌, not};
 ghost use Rattle.n41_model.specs.Requests.{outs, bares, knows, used, turn_of, retried, sent, sent_after, bare_waits, put_at, bare_put_at, doubt, is_waiting, verdict, verdict_in, verdict_on};
 
-use crate::requests::{is_bare, is_on, made, moment, request};
+use crate::requests::{is_bare, is_on, made, moment, newest, request};
 use n41_journal::Event;
 use n41_model::{gives_back, is_final, sequence_status, Sent, Verdict};
 use n41_results::Reply;
 use n41_types::{Request, SlotUse, Status};
 
+/// Whether a request that was known is left after a reply with this xid ended its request.
+fn is_left(known: bool, ended: u32, xid: u32) -> bool
+    ensures { result ≡ (not (ended == xid) && known) }
+{
+    ended != xid && known
+}
+
 /// Whether a request with this xid is out on a slot.
-#[tactic(auto, using(crate::proofs::Ended::without_knows))]
 pub fn is_out(events: &[Event], slot: u32, xid: u32) -> bool
     ensures { result ≡ knows (outs events.now slot) xid }
 {
-    match events {
-        [] => false,
-        [Event::Put { request, .. }, older @ ..] if is_on(request, slot) => {
-            is_out(older, slot, xid) || request.xid == xid
+    let Some((newest, older)) = newest(events) else {
+        return false;
+    };
+    match newest {
+        Event::Put { request, .. } => {
+            if is_on(request, slot) {
+                is_out(older, slot, xid) || request.xid == xid
+            } else {
+                is_out(older, slot, xid)
+            }
         }
-        [Event::Took { reply, .. }, older @ ..] => {
-            made(older, reply).is_none()
-                && !(is_final(reply) && reply.xid == xid)
-                && is_out(older, slot, xid)
+        Event::Took { reply, .. } => {
+            if made(older, reply).is_some() {
+                false
+            } else if is_final(reply) {
+                let known = is_out(older, slot, xid);
+                is_left(known, reply.xid, xid)
+            } else {
+                is_out(older, slot, xid)
+            }
         }
-        [_, older @ ..] => is_out(older, slot, xid),
+        _ => is_out(older, slot, xid),
     }
 }
 
 /// Whether a request without a slot and with this xid is out.
-#[tactic(auto, using(crate::proofs::Ended::without_knows))]
 pub fn is_bare_out(events: &[Event], xid: u32) -> bool
     ensures { result ≡ knows (bares events.now) xid }
 {
-    match events {
-        [] => false,
-        [Event::Put { request, .. }, older @ ..] if is_bare(request) => {
-            is_bare_out(older, xid) || request.xid == xid
+    let Some((newest, older)) = newest(events) else {
+        return false;
+    };
+    match newest {
+        Event::Put { request, .. } => {
+            if is_bare(request) {
+                is_bare_out(older, xid) || request.xid == xid
+            } else {
+                is_bare_out(older, xid)
+            }
         }
-        [Event::Took { reply, .. }, older @ ..] => reply.xid != xid && is_bare_out(older, xid),
-        [_, older @ ..] => is_bare_out(older, xid),
+        Event::Took { reply, .. } => {
+            let known = is_bare_out(older, xid);
+            is_left(known, reply.xid, xid)
+        }
+        _ => is_bare_out(older, xid),
     }
 }
 
