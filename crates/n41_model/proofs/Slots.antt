@@ -114,6 +114,7 @@ put_seat js c p r n s f = at_test (is_on r n) refl where
   at_list : is_on r n ≡ true → (outs js n ≡ []) ⊎ IsAlone (outs js n) r → Seat n (outs (Put c p r ∷ js) n)
   at_list o (inl e) = rw (o, e) o
   at_list o (inr e) = rw (o, joined_again (outs js n) r e) s
+
   at_test : (b : Bool) → is_on r n ≡ b → Seat n (outs (Put c p r ∷ js) n)
   at_test true o = at_list o (f o)
   at_test false o = rw o s
@@ -123,6 +124,7 @@ put_lone js c p r s f = at_test (is_bare r) refl where
   at_list : is_bare r ≡ true → (bares js ≡ []) ⊎ IsAlone (bares js) r → Lone (bares (Put c p r ∷ js))
   at_list o (inl e) = rw (o, e) o
   at_list o (inr e) = rw (o, joined_again (bares js) r e) s
+
   at_test : (b : Bool) → is_bare r ≡ b → Lone (bares (Put c p r ∷ js))
   at_test true o = at_list o (f o)
   at_test false o = rw o s
@@ -133,9 +135,9 @@ on_alone js r n s (inl a) o = absurd (let b = (alone_bare (bares js) r s.lone a.
 on_alone js r n s (inr (inl a)) o =
     let h = alone_on a.slot (outs js a.slot) r (s.on a.slot) a.is_out in
     inr (subst (λ (k : ℕ). IsAlone (outs js k) r) (same_slot r r.slot a.slot n refl h.1 o) h.0) where
-  same_slot : (r : Request) (u : Option SlotUse) (n m : ℕ) → r.slot ≡ u → is_use_of u n ≡ true → is_use_of u m ≡ true → n ≡ m
-  same_slot r None n m e a b = absurd (cc)
-  same_slot r (Some p) n m e a b = grind (arith, nat_tests, a, b)
+      same_slot : (r : Request) (u : Option SlotUse) (n m : ℕ) → r.slot ≡ u → is_use_of u n ≡ true → is_use_of u m ≡ true → n ≡ m
+      same_slot r None n m e a b = absurd (cc)
+      same_slot r (Some p) n m e a b = grind (arith, nat_tests, a, b)
 on_alone js r n s (inr (inr (inl a))) o = absurd (let d = on_is_slotted r r.slot n refl o in let b = a.no_slot in cc)
 on_alone js r n s (inr (inr (inr a))) o = inl (subst (λ (k : ℕ). outs js k ≡ []) (other_slot r a.place n a.placed o) a.free)
 

@@ -99,10 +99,10 @@ is_put_off_by w n = false
 
 -- what is known of the call of one caller
 pub record Call : Type 0 where
-  pub busy : Bool                 -- a request of it is out
-  pub since : Option ℕ            -- the moment of a DELAY or GRACE, while no new attempt was made
-  pub attempts : ℕ                -- the attempts of its step so far
-  pub earned : Option Answer      -- the answer that its last reply gives
+  pub busy : Bool  -- a request of it is out
+  pub since : Option ℕ  -- the moment of a DELAY or GRACE, while no new attempt was made
+  pub attempts : ℕ  -- the attempts of its step so far
+  pub earned : Option Answer  -- the answer that its last reply gives
 
 abbrev pub fresh_call : Call
 fresh_call = record { busy = false; since = None; attempts = 0; earned = None }
@@ -169,7 +169,7 @@ abbrev pub put_ledger : List Event → ℕ → Request → Option ℕ → Ledger
 put_ledger js n r s l =
     if is_new js r s
     then (let o = in_running (phase js) (chosen js l.calls r.plan n) in
-        record { calls = λ c. if is_caller o c then put_call (l.calls c) else l.calls c; owners = λ m. if is_on r m then o else l.owners m })
+    record { calls = λ c. if is_caller o c then put_call (l.calls c) else l.calls c; owners = λ m. if is_on r m then o else l.owners m })
     else l
 
 abbrev pub took_ledger : List Event → Reply → Option ℕ → Ledger → Ledger

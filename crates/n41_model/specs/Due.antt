@@ -42,9 +42,13 @@ bare_request u p x = record { xid = x; uid = u.uid; gid = u.gid; minor = 1; slot
 
 abbrev pub slot_request : Setup → List Event → SessionMade → ℕ → Plan → ℕ → Request
 slot_request u js m n p x = record {
-  xid = x; uid = u.uid; gid = u.gid; minor = 1;
+  xid = x;
+  uid = u.uid;
+  gid = u.gid;
+  minor = 1;
   slot = Some (record { sid = m.sid; slot = n; turn = used js n + 1; highest = highest js n; cache = is_cached (class_of p) });
-  plan = p }
+  plan = p;
+}
 
 abbrev pub on_free : Setup → List Event → Plan → Option SessionMade → Option ℕ → Option ℕ → Option Request
 on_free u js p (Some m) (Some n) (Some x) = Some (slot_request u js m n p x)

@@ -35,9 +35,7 @@ pub fn is_final(reply: &Reply) -> bool
 {
     match sequence_status(&reply.body) {
         None => true,
-        Some(status) => {
-            status != Status::DELAY && status != Status::CONN_NOT_BOUND_TO_SESSION
-        }
+        Some(status) => { status != Status::DELAY && status != Status::CONN_NOT_BOUND_TO_SESSION }
     }
 }
 
@@ -58,9 +56,7 @@ fn repeats(slot: &Option<SlotUse>, sequenced: &Sequenced) -> bool
     match slot {
         None => false,
         Some(used) => {
-            sequenced.sid == used.sid
-                && sequenced.turn == used.turn
-                && sequenced.slot == used.slot
+            sequenced.sid == used.sid && sequenced.turn == used.turn && sequenced.slot == used.slot
         }
     }
 }

@@ -9,8 +9,8 @@ mod turns;
 
 pub use recovery::{is_step_of, passed, phase, phases, put_off};
 pub use requests::{
-    bare_verdict, dials, heard, is_bare, is_on, made, moment, newest, puts, quit, request, rounds, standing,
-    takes,
+    bare_verdict, dials, heard, is_bare, is_on, made, moment, newest, puts, quit, request, rounds,
+    standing, takes,
 };
 pub use sessions::{bound, client, completed, completes, plan_of, session, slots, target};
 pub use turns::{

@@ -167,8 +167,7 @@ pub fn put_off(events: &[Event], phase: Phase) -> Option<u64>
         [] => None,
         [Event::Put { request, .. }, ..] if is_step_of(phase, Some(&request.plan)) => None,
         [Event::Took { reply, .. }, older @ ..]
-            if is_step_of(phase, plan_of(older, reply)) && is_put_off(older, reply) =>
-        {
+            if is_step_of(phase, plan_of(older, reply)) && is_put_off(older, reply) => {
             Some(moment(older))
         }
         [_, older @ ..] => put_off(older, phase),

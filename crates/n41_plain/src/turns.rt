@@ -3,7 +3,7 @@ ghost use Rattle.n41_model.specs.Requests.{outs, bares, knows, used, turn_of, re
 
 use crate::requests::{is_bare, is_on, made, moment, newest, request};
 use n41_journal::Event;
-use n41_model::{gives_back, is_final, sequence_status, Sent, Verdict};
+use n41_model::{Sent, Verdict, gives_back, is_final, sequence_status};
 use n41_results::Reply;
 use n41_types::{Request, SlotUse, Status};
 

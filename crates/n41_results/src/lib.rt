@@ -20,5 +20,5 @@ pub use results::{
     Content, Created, Entries, Entry, Listing, LockDenied, LockRefusal, LockType, Renamed, Res,
     Statuses, Written,
 };
-pub use shapes::Shape;
 pub use sessions::{Bound, Channel, Identity, ImplId, Sequenced, SessionMade};
+pub use shapes::Shape;

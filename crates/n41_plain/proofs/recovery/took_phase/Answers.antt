@@ -1,4 +1,4 @@
-use Rattle.std.proofs.Common.{◌≡◌, sym, ◌∙◌, arith}
+use Rattle.std.proofs.Common.{sym, ◌∙◌}
 use Rattle.n41_plain.proofs.Alive.{alive}
 use Rattle.n41_plain.proofs.recovery.took_phase.Goals as goal
 

@@ -1,7 +1,7 @@
 use Rattle.std.proofs.Common.{rules, ◌≡◌, ◌==◌, ◌∷◌, ◌&&◌, not, false, true, ap, sym, ◌∙◌}
 use Rattle.std.specs.Prelude.{is_some}
 use Rattle.n41_model.specs.Replies.{is_final}
-use Rattle.n41_model.specs.Requests.{outs, made}
+use Rattle.n41_model.specs.Requests.{made}
 use Rattle.n41_plain.proofs.Known.{took_final}
 use Rattle.n41_plain.proofs.turns.+is_out.Goals as goal
 
