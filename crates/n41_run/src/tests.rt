@@ -1,5 +1,5 @@
 use super::*;
-use n41_link::{Clock, Sink};
+use n41_link::{Clock, Dialer, Failed, Sink};
 use n41_mem::{
     MemClock, MemDialer, MemInflow, MemOutflow, MemSink, SureListener, SureSink, SureSource,
 };
@@ -99,6 +99,57 @@ fn a_probe_prints_what_the_reply_says(rt: HostRuntime) -> Result<(), Fail> {
     assert!(rt; ended.clock.gave(5) && !ended.clock.gave(6));
     let talk = ended.probed.ok_or("there was a connection")?;
     assert_eq!(rt; talk.mouth.said(), CALL);
+    Ok(())
+}
+
+// A dialer that knows one address, and counts its dials.
+#[derive(Drop)]
+struct At<'a> {
+    address: &'a str,
+    inner: MemDialer,
+    dials: u64,
+    faults: u64,
+}
+
+impl Dialer for At<'_> {
+    type I = MemInflow;
+
+    type O = MemOutflow;
+
+    ghost faults = { λ d. d.faults };
+
+    fn dial(&mut self, addr: &str) -> Result<(MemInflow, MemOutflow), Failed> {
+        self.dials = self.dials.saturating_add(1);
+        if addr == self.address {
+            if let Ok(link) = self.inner.dial(addr) {
+                return Ok(link);
+            }
+        }
+        self.faults = self.faults.saturating_add(1);
+        Err(Failed)
+    }
+}
+
+// The address and the number of dials are in no clause: a dialer has no words for them.
+#[test]
+fn a_probe_dials_its_address_once(rt: HostRuntime) -> Result<(), Fail> {
+    let mut brought = Vec::new(rt.alloc());
+    brought.push(Bytes::copy_from_slice(rt.alloc(), REPLY)?)?;
+    let inflow = MemInflow::new(rt.alloc(), &brought, &[])?;
+    let outflow = MemOutflow::new(rt.alloc(), &[])?;
+    let mut links = Vec::new(rt.alloc());
+    links.push((inflow, outflow))?;
+    let mut dialer = At {
+        address: "x:2049",
+        inner: MemDialer::new(rt.alloc(), links, &[])?,
+        dials: 0,
+        faults: 0,
+    };
+    let mut sink = SureSink::new(rt.alloc());
+    let mut clock = MemClock::new(rt.alloc(), &[5])?;
+    let (status, _, _) = probe(rt.alloc(), "x:2049", &mut sink, &mut dialer, &mut clock);
+    assert_eq!(rt; status, 0);
+    assert_eq!(rt; dialer.dials, 1);
     Ok(())
 }
 
