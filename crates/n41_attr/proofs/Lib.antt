@@ -1,0 +1,5 @@
+pub mod Lawful
+pub mod Written
+pub mod Unions
+pub mod PartsLawful
+pub mod Convert

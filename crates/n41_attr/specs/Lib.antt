@@ -1,0 +1,7 @@
+pub mod Faults
+pub mod Reading
+pub mod Bitmaps
+pub mod Attributes
+pub mod Operations
+pub mod Unions
+pub mod Parts
