@@ -16,10 +16,10 @@ pub use directories::{CreateArgs, ReadDirArgs, RenameArgs};
 pub use files::{CommitArgs, ReadArgs, SetAttrArgs, WriteArgs};
 pub use laws::{arguments_are_lawful, what_is_written_is_read};
 pub use locks::{LockArgs, LockTestArgs, LockerArgs, UnlockArgs};
-pub use openings::{CloseArgs, DowngradeArgs, OpenArgs, OpenClaim, OpenHow};
-pub use owners::StateOwner;
-pub use reading::read_arg;
 pub use n41_session_args::{
     BindArgs, CreateSessionArgs, ExchangeIdArgs, Securities, Security, SystemAuth,
 };
+pub use openings::{CloseArgs, DowngradeArgs, OpenArgs, OpenClaim, OpenHow};
+pub use owners::StateOwner;
+pub use reading::read_arg;
 pub use writing::write_arg;

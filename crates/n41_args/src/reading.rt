@@ -9,9 +9,9 @@ use crate::directories::{read_create, read_read_dir, read_rename};
 use crate::files::{read_commit, read_read, read_set_attr, read_stateids, read_write};
 use crate::locks::{read_lock, read_lock_test, read_unlock};
 use crate::openings::{read_close, read_downgrade, read_open};
-use n41_session_args::sessions::{read_bind, read_create_session, read_exchange_id, read_sequence};
 use n41_attr::OpFault;
 use n41_attr::parts::{read_fh, read_session, read_set, read_stateid, read_string};
+use n41_session_args::sessions::{read_bind, read_create_session, read_exchange_id, read_sequence};
 use n41_xdr::Reader;
 use std::alloc::Global;
 

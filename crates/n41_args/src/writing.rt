@@ -6,8 +6,10 @@ use crate::directories::{write_create, write_read_dir, write_rename};
 use crate::files::{write_commit, write_read, write_set_attr, write_stateids, write_write};
 use crate::locks::{write_lock, write_lock_test, write_unlock};
 use crate::openings::{write_close, write_downgrade, write_open};
-use n41_session_args::sessions::{write_bind, write_create_session, write_exchange_id, write_sequence};
 use n41_attr::parts::{write_fh, write_session, write_set, write_stateid, write_string};
+use n41_session_args::sessions::{
+    write_bind, write_create_session, write_exchange_id, write_sequence,
+};
 use n41_types::NoMemory;
 use n41_xdr::Writer;
 
