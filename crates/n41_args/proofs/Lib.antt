@@ -1,0 +1,3 @@
+pub mod PartsLawful
+pub mod ArgsLawful
+pub mod Fits
