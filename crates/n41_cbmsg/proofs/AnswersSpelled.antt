@@ -1,19 +1,17 @@
 -- Answers to callbacks are read just where they are spelled.
-use Rattle.std.proofs.Common.{◌≡◌, ◌≢◌, ℕ, ◌+◌, ◌<◌, ◌^◌, Bool, true, false, cond, eqb, List, [], ◌∷◌, ◌++◌, length, length-append, Result, Ok, Err, refl, sym, ap, subst, ◌∙◌, append_assoc, arith, inl, inr}
+use Rattle.std.proofs.Common.{◌≡◌, ◌≢◌, ℕ, ◌<◌, ◌^◌, true, false, cond, eqb, List, [], ◌++◌, length, length-append, Result, Ok, Err, refl, sym, ap, subst, ◌∙◌, append_assoc, arith, inl, inr}
 use Rattle.std.proofs.lemmas.Bool.{eqb-true}
 use Rattle.std.proofs.lemmas.List.{append-nil, nil_from_length}
 use Rattle.n41_xdr.specs.Spelling as spelling
 use Rattle.n41_xdr.specs.Reading.{◌>>=◌}
 use Rattle.n41_xdr.specs.Format.{word, made, fault_as, lifted}
-use Rattle.n41_xdr.specs.Lawful.{IsBytes, Takes, IsLawful, BeginsNoOther}
-use Rattle.n41_xdr.proofs.Lawful.{bind_ok, fault_as_ok, chosen, made_again, word_lawful, opaque_lawful, lifted_lawful, both_lawful, dependent_lawful, one_spelling}
-use Rattle.n41_types.specs.declared.statuses.Status.{Status}
+use Rattle.n41_xdr.specs.Lawful.{IsBytes, Takes, IsLawful}
+use Rattle.n41_xdr.proofs.Lawful.{bind_ok, fault_as_ok, chosen, made_again, word_lawful, opaque_lawful, lifted_lawful, both_lawful, dependent_lawful}
 use Rattle.n41_rpc.specs.declared.fault.RpcFault.{RpcFault}
 use Rattle.n41_rpc.specs.declared.heads.Cred.{Cred}
-use Rattle.n41_rpc.specs.declared.heads.HeadBody.{HeadBody}
-use Rattle.n41_rpc.specs.declared.heads.HeadBody.TheVariants.{Success, Rejected}
+use Rattle.n41_rpc.specs.declared.heads.HeadBody.TheVariants.{Rejected}
 use Rattle.n41_rpc.specs.declared.heads.Head.{Head}
-use Rattle.n41_rpc.specs.Heads.{Spoken, call, reply, Verdict, accepted, denied, Denial, versions, auth, Accept, success, no_program, mismatch, no_procedure, garbage, system_error, accept, accept_body, verdict, spoken, head, head_of, kept, cred, no_auth}
+use Rattle.n41_rpc.specs.Heads.{Spoken, call, reply, accepted, denied, versions, auth, Accept, success, no_program, mismatch, no_procedure, garbage, system_error, accept, accept_body, verdict, spoken, head, head_of, kept, cred, no_auth}
 use Rattle.n41_rpc.proofs.Lawful.{head_lawful}
 use Rattle.n41_results.specs.declared.callbacks.CbRes.{CbRes}
 use Rattle.n41_results.specs.declared.callbacks.CbReply.{CbReply}
@@ -24,7 +22,7 @@ use Rattle.n41_cbmsg.specs.declared.fault.MsgFault.{MsgFault}
 use Rattle.n41_cbmsg.specs.declared.fault.MsgFault.TheVariants.{Count, Left}
 use Rattle.n41_cbmsg.specs.Reading.{of_rpc, of_xdr}
 use Rattle.n41_cbmsg.specs.Outcomes.{outcomes}
-use Rattle.n41_cbmsg.specs.Answers.{last_of, told, results, results_body, ended, succeeded, rejection, body_at, behind_head, answer_at, SpellsBody, SpellsAnswer, written_accept, written_results, BodyFits, AnswerFits, written_answer}
+use Rattle.n41_cbmsg.specs.Answers.{last_of, told, results, results_body, ended, succeeded, body_at, behind_head, answer_at, SpellsBody, SpellsAnswer, written_accept, written_results, BodyFits, AnswerFits, written_answer}
 use Rattle.n41_cbmsg.proofs.Parts.{outcomes_lawful}
 
 -- ---- results

@@ -1,5 +1,5 @@
 -- Callbacks are read just where they are spelled.
-use Rattle.std.proofs.Common.{◌≡◌, ◌≢◌, ℕ, zero, suc, ◌+◌, ◌<◌, ◌^◌, Bool, true, false, cond, eqb, List, [], ◌∷◌, ◌++◌, length, Option, Some, None, Result, Ok, Err, refl, sym, ap, subst, ◌∙◌, append_assoc, zero-add, arith, inl, inr}
+use Rattle.std.proofs.Common.{◌≡◌, ℕ, zero, suc, ◌+◌, ◌<◌, ◌^◌, Bool, true, false, eqb, List, [], ◌∷◌, ◌++◌, length, Some, None, Result, Ok, Err, refl, sym, ap, subst, ◌∙◌, append_assoc, zero-add, arith, inl, inr}
 use Rattle.std.specs.List.{flat_map, AllByRecursion}
 use Rattle.std.specs.Int.{w32}
 use Rattle.std.proofs.lemmas.Bool.{eqb-true}
@@ -7,7 +7,7 @@ use Rattle.std.proofs.lemmas.List.{append-nil, nil_from_length}
 use Rattle.std.proofs.lemmas.List.Concat.{flat_map-cons}
 use Rattle.n41_xdr.specs.declared.fault.XdrFault.{XdrFault}
 use Rattle.n41_xdr.specs.Spelling as spelling
-use Rattle.n41_xdr.specs.Reading.{◌>>=◌, number_at, opaque_at}
+use Rattle.n41_xdr.specs.Reading.{number_at, opaque_at}
 use Rattle.n41_xdr.specs.Format.{made, fault_as, choose}
 use Rattle.n41_xdr.specs.Lawful.{IsBytes, Takes, IsLawful}
 use Rattle.n41_xdr.proofs.Lawful.{bind_ok, fault_as_ok, chosen, made_again, word_lawful, opaque_lawful, both_lawful}
@@ -47,8 +47,8 @@ one_more x ops n bytes after t fits s = record {
   counted = omega (arith, s.counted);
   fits = (fits, s.fits);
   parts =
-    t.parts ∙ ap (λ (w : List ℕ). argument.spell x ++ w) s.parts ∙ sym (append_assoc (argument.spell x) (flat_map argument.spell ops.list) s.rest)
-    ∙ ap (λ (w : List ℕ). w ++ s.rest) (sym (flat_map-cons argument.spell x ops.list));
+      t.parts ∙ ap (λ (w : List ℕ). argument.spell x ++ w) s.parts ∙ sym (append_assoc (argument.spell x) (flat_map argument.spell ops.list) s.rest)
+      ∙ ap (λ (w : List ℕ). w ++ s.rest) (sym (flat_map-cons argument.spell x ops.list));
   behind = s.behind;
 }
 
@@ -299,12 +299,11 @@ call_more c bytes more s whole =
     let text : bytes ++ more ≡ head.spell (c.xid, call c.prog c.vers c.procedure s.credential s.verifier) ++ (s.rest ++ more) =
     ap (λ (w : List ℕ). w ++ more) s.parts ∙ append_assoc (head.spell (c.xid, call c.prog c.vers c.procedure s.credential s.verifier)) s.rest more in
     let behind : SpellsBehind Whole (is_compound c.prog c.vers c.procedure) (record { minor = c.minor; ops = record { list = c.ops.list; tail = Whole } }) s.rest =
-    subst (λ (t : Tail). SpellsBehind t (is_compound c.prog c.vers c.procedure) (record { minor = c.minor; ops = record { list = c.ops.list; tail = t } }) s.rest) whole s.behind in
-    (
+    subst (λ (t : Tail). SpellsBehind t (is_compound c.prog c.vers c.procedure) (record { minor = c.minor; ops = record { list = c.ops.list; tail = t } }) s.rest) whole s.behind in (
       s.credential,
       ap call_at text ∙ call_again c.xid c.prog c.vers c.procedure s.credential s.verifier (s.rest ++ more) s.fits
-      ∙ ap (λ (b : Bool). call_ok (call_of (head_with c.xid c.prog c.vers c.procedure s.credential) (arguments_at b (s.rest ++ more)))) behind.0
-      ∙ ap (λ (a : Arguments). call_ok (call_of (head_with c.xid c.prog c.vers c.procedure s.credential) a)) (arguments_more c.minor c.ops.list s.rest more behind.1)
+          ∙ ap (λ (b : Bool). call_ok (call_of (head_with c.xid c.prog c.vers c.procedure s.credential) (arguments_at b (s.rest ++ more)))) behind.0
+          ∙ ap (λ (a : Arguments). call_ok (call_of (head_with c.xid c.prog c.vers c.procedure s.credential) a)) (arguments_more c.minor c.ops.list s.rest more behind.1),
     )
 
 whole_read : (c : CbCall) (bytes : List ℕ) → SpellsCall c bytes → c.ops.tail ≡ Whole → call_at bytes ≡ call_ok c
@@ -348,46 +347,44 @@ nothing_is_garbage = refl
 
 written_is_spelled : (tail : Tail) (is_cb : Bool) (minor : ℕ) (list : List CbArg) → TailFits tail is_cb (record { minor = minor; ops = record { list = list; tail = tail } })
     → SpellsBehind tail is_cb (record { minor = minor; ops = record { list = list; tail = tail } }) (written_behind tail minor list)
-written_is_spelled Whole is_cb minor list f =
-    (
-      f.0,
-      record {
-        label = [];
-        ident = 0;
-        count = length list;
-        rest = flat_map argument.spell list;
-        fits = front_fits minor (length list) f.1 f.2;
-        parts = refl;
-        ops = record {
-          more = 0;
-          rest = [];
-          counted = omega arith;
-          fits = f.3;
-          parts = sym (append-nil (flat_map argument.spell list));
-          behind = (refl, refl);
-        };
-      },
-    )
-written_is_spelled (Unknown n) is_cb minor list f =
-    (
-      f.0,
-      record {
-        label = [];
-        ident = 0;
-        count = length list + 1;
-        rest = flat_map argument.spell list ++ spelling.word n;
-        fits = front_fits minor (length list + 1) f.1 f.2;
-        parts = refl;
-        ops = record {
-          more = 1;
-          rest = spelling.word n;
-          counted = refl;
-          fits = f.3;
-          parts = refl;
-          behind = (omega arith, f.4, f.5, ([], sym (append-nil (spelling.word n))));
-        };
-      },
-    )
+written_is_spelled Whole is_cb minor list f = (
+  f.0,
+  record {
+    label = [];
+    ident = 0;
+    count = length list;
+    rest = flat_map argument.spell list;
+    fits = front_fits minor (length list) f.1 f.2;
+    parts = refl;
+    ops = record {
+      more = 0;
+      rest = [];
+      counted = omega arith;
+      fits = f.3;
+      parts = sym (append-nil (flat_map argument.spell list));
+      behind = (refl, refl);
+    };
+  },
+)
+written_is_spelled (Unknown n) is_cb minor list f = (
+  f.0,
+  record {
+    label = [];
+    ident = 0;
+    count = length list + 1;
+    rest = flat_map argument.spell list ++ spelling.word n;
+    fits = front_fits minor (length list + 1) f.1 f.2;
+    parts = refl;
+    ops = record {
+      more = 1;
+      rest = spelling.word n;
+      counted = refl;
+      fits = f.3;
+      parts = refl;
+      behind = (omega arith, f.4, f.5, ([], sym (append-nil (spelling.word n))));
+    };
+  },
+)
 written_is_spelled Garbage is_cb minor list f = (f.0, f.1, is_no_spelling [] nothing_is_garbage)
 written_is_spelled Unread is_cb minor list f = f
 

@@ -1,10 +1,10 @@
 -- The arguments and the results of callbacks are read just where they are spelled.
-use Rattle.std.proofs.Common.{◌≡◌, ◌≢◌, ℕ, zero, suc, eqb, true, List, [], ◌∷◌, ◌++◌, length, Result, Ok, Err, refl, ap, arith}
+use Rattle.std.proofs.Common.{◌≡◌, ℕ, zero, suc, List, ◌∷◌, ◌++◌, Result, Ok, Err, refl, ap}
 use Rattle.std.specs.List.{flat_map}
 use Rattle.n41_xdr.specs.declared.fault.XdrFault.{XdrFault}
 use Rattle.n41_xdr.specs.declared.fault.XdrFault.TheVariants.{BadArm}
 use Rattle.n41_xdr.specs.Reading.{◌>>=◌}
-use Rattle.n41_xdr.specs.Format.{Format, word, choose, many_at, fault_as}
+use Rattle.n41_xdr.specs.Format.{choose, many_at, fault_as}
 use Rattle.n41_xdr.specs.Lawful.{IsLawful}
 use Rattle.n41_xdr.proofs.Lawful.{bind_ok, fault_as_ok, given_lawful, word_lawful as xdr_word, fixed_lawful as xdr_fixed, mapped_lawful, both_lawful, list_lawful, many_lawful, row_lawful, made_again, union_lawful}
 use Rattle.n41_types.specs.declared.statuses.Status.{Status}
@@ -123,18 +123,40 @@ unfolding outcome
 outcome_lawful =
     union_lawful same_fault (λ n. BadArm n) outcome_rows outcome_arm (
       row_lawful outcome_arm 4 (λ s. res.Recall s) _ (λ _. refl) status_lawful,
-      (row_lawful outcome_arm 8 (λ s. res.RecallAny s) _ (λ _. refl) status_lawful,
-      (row_lawful outcome_arm 10 (λ s. res.RecallSlot s) _ (λ _. refl) status_lawful,
-      (row_lawful outcome_arm 11 (λ r. res.Sequence r) _ (λ _. refl) sequence_outcome_lawful,
-      (row_lawful outcome_arm 3 (λ s. res.Unserved GetAttr s) _ (λ _. refl) failure_lawful,
-      (row_lawful outcome_arm 5 (λ s. res.Unserved LayoutRecall s) _ (λ _. refl) failure_lawful,
-      (row_lawful outcome_arm 6 (λ s. res.Unserved Notify s) _ (λ _. refl) failure_lawful,
-      (row_lawful outcome_arm 7 (λ s. res.Unserved PushDeleg s) _ (λ _. refl) failure_lawful,
-      (row_lawful outcome_arm 9 (λ s. res.Unserved ObjectAvailable s) _ (λ _. refl) failure_lawful,
-      (row_lawful outcome_arm 12 (λ s. res.Unserved WantsCancelled s) _ (λ _. refl) failure_lawful,
-      (row_lawful outcome_arm 13 (λ s. res.Unserved NotifyLock s) _ (λ _. refl) failure_lawful,
-      (row_lawful outcome_arm 14 (λ s. res.Unserved NotifyDevice s) _ (λ _. refl) failure_lawful,
-      (row_lawful outcome_arm 10044 (λ s. res.Illegal s) _ (λ _. refl) failure_lawful, tt))))))))))))
+      (
+        row_lawful outcome_arm 8 (λ s. res.RecallAny s) _ (λ _. refl) status_lawful,
+        (
+          row_lawful outcome_arm 10 (λ s. res.RecallSlot s) _ (λ _. refl) status_lawful,
+          (
+            row_lawful outcome_arm 11 (λ r. res.Sequence r) _ (λ _. refl) sequence_outcome_lawful,
+            (
+              row_lawful outcome_arm 3 (λ s. res.Unserved GetAttr s) _ (λ _. refl) failure_lawful,
+              (
+                row_lawful outcome_arm 5 (λ s. res.Unserved LayoutRecall s) _ (λ _. refl) failure_lawful,
+                (
+                  row_lawful outcome_arm 6 (λ s. res.Unserved Notify s) _ (λ _. refl) failure_lawful,
+                  (
+                    row_lawful outcome_arm 7 (λ s. res.Unserved PushDeleg s) _ (λ _. refl) failure_lawful,
+                    (
+                      row_lawful outcome_arm 9 (λ s. res.Unserved ObjectAvailable s) _ (λ _. refl) failure_lawful,
+                      (
+                        row_lawful outcome_arm 12 (λ s. res.Unserved WantsCancelled s) _ (λ _. refl) failure_lawful,
+                        (
+                          row_lawful outcome_arm 13 (λ s. res.Unserved NotifyLock s) _ (λ _. refl) failure_lawful,
+                          (
+                            row_lawful outcome_arm 14 (λ s. res.Unserved NotifyDevice s) _ (λ _. refl) failure_lawful,
+                            (row_lawful outcome_arm 10044 (λ s. res.Illegal s) _ (λ _. refl) failure_lawful, tt),
+                          ),
+                        ),
+                      ),
+                    ),
+                  ),
+                ),
+              ),
+            ),
+          ),
+        ),
+      ),
     )
     outcome_back
 

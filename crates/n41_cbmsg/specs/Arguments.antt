@@ -1,5 +1,5 @@
 -- The operations of callbacks that are served, with their arguments (RFC 8881, section 20).
-use Rattle.std.specs.Prelude.{ℕ, List, [], ◌∷◌, Bool, Result, Ok, ◌==◌, ◌||◌}
+use Rattle.std.specs.Prelude.{ℕ, List, [], ◌∷◌, Bool, Result, ◌==◌, ◌||◌}
 use Rattle.n41_xdr.specs.Format.{Format, ◌&◌, mapped, list, made, Arm, arm, union}
 use Rattle.n41_results.specs.declared.callbacks.ReferringCall.{ReferringCall}
 use Rattle.n41_results.specs.declared.callbacks.ReferringList.{ReferringList}

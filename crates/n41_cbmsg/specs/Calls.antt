@@ -26,7 +26,7 @@ use Rattle.n41_cbmsg.specs.Reading.{of_rpc}
 use Rattle.n41_cbmsg.specs.Tags.{tag}
 use Rattle.n41_cbmsg.specs.Arguments.{is_served, argument, argument_rows}
 
--- the program that the server is told of, in the version 1 of older servers or 4, and its procedure CB_COMPOUND (own)
+-- the program 0x40000000, of which CREATE_SESSION tells the server, in version 1 or 4 (own), and its procedure CB_COMPOUND (section 20)
 abbrev pub is_compound : ℕ → ℕ → ℕ → Bool
 is_compound prog vers procedure = (prog == 1073741824) && ((vers == 1) || (vers == 4)) && (procedure == 1)
 

@@ -10,7 +10,8 @@ ghost use Rattle.n41_cbmsg.specs.Arguments.{recall, recall_any, sequence, argume
 use crate::referring::{read_referring_lists, write_referring_lists};
 use n41_attr::OpFault;
 use n41_attr::parts::{
-    read_fh, read_session, read_set, read_stateid, write_fh, write_session, write_set, write_stateid,
+    read_fh, read_session, read_set, read_stateid, write_fh, write_session, write_set,
+    write_stateid,
 };
 use n41_results::{CbArg, CbRecall, CbRecallAny, CbSequence};
 use n41_types::NoMemory;
@@ -68,11 +69,7 @@ fn read_sequence(alloc: Global, r: &mut Reader) -> Result<CbSequence, OpFault>
 }
 
 /// The arguments behind a number.
-pub(crate) fn read_arguments(
-    alloc: Global,
-    r: &mut Reader,
-    number: u32,
-) -> Result<CbArg, OpFault>
+pub(crate) fn read_arguments(alloc: Global, r: &mut Reader, number: u32) -> Result<CbArg, OpFault>
     ensures { Gives (λ x. x) result r.new (choose bad_arm argument_rows number r.old) }
 {
     match number {
