@@ -1,5 +1,6 @@
 -- Answers to callbacks are read just where they are spelled.
 use Rattle.std.proofs.Common.{◌≡◌, ◌≢◌, ℕ, ◌<◌, ◌^◌, true, false, cond, eqb, List, [], ◌++◌, length, length-append, Result, Ok, Err, refl, sym, ap, subst, ◌∙◌, append_assoc, arith, inl, inr}
+use Rattle.std.specs.Prelude.{IfOk}
 use Rattle.std.proofs.lemmas.Bool.{eqb-true}
 use Rattle.std.proofs.lemmas.List.{append-nil, nil_from_length}
 use Rattle.n41_xdr.specs.Spelling as spelling
@@ -20,7 +21,7 @@ use Rattle.n41_results.specs.declared.callbacks.CbBody.TheVariants.{Mismatch, No
 use Rattle.n41_attr.proofs.PartsLawful.{apart}
 use Rattle.n41_cbmsg.specs.declared.fault.MsgFault.{MsgFault}
 use Rattle.n41_cbmsg.specs.declared.fault.MsgFault.TheVariants.{Count, Left}
-use Rattle.n41_cbmsg.specs.Reading.{of_rpc, of_xdr}
+use Rattle.n41_cbmsg.specs.Reading.{of_rpc, of_xdr, IsRead}
 use Rattle.n41_cbmsg.specs.Outcomes.{outcomes}
 use Rattle.n41_cbmsg.specs.Answers.{last_of, told, results, results_body, ended, succeeded, body_at, behind_head, answer_at, SpellsBody, SpellsAnswer, written_accept, written_results, BodyFits, AnswerFits, written_answer}
 use Rattle.n41_cbmsg.proofs.Parts.{outcomes_lawful}
@@ -259,3 +260,7 @@ body_fits (Results st list) a rest s =
 
 pub spelled_answer_fits : (r : CbReply) (bytes : List ℕ) → SpellsAnswer r bytes → AnswerFits r
 spelled_answer_fits r bytes s = (s.fits.0, body_fits r.body s.accept s.rest s.body)
+
+pub read_answer_fits : (bytes : List ℕ) (r : Result CbReply MsgFault) → IsBytes bytes → IsRead r (answer_at bytes) → IfOk r (λ r. AnswerFits r)
+read_answer_fits bytes (Ok r) fits e = spelled_answer_fits r bytes (read_answer_spelled r bytes fits e)
+read_answer_fits bytes (Err f) fits e = tt

@@ -1,5 +1,6 @@
 -- Callbacks are read just where they are spelled.
 use Rattle.std.proofs.Common.{◌≡◌, ℕ, zero, suc, ◌+◌, ◌<◌, ◌^◌, Bool, true, false, eqb, List, [], ◌∷◌, ◌++◌, length, Some, None, Result, Ok, Err, refl, sym, ap, subst, ◌∙◌, append_assoc, zero-add, arith, inl, inr}
+use Rattle.std.specs.Prelude.{IfOk}
 use Rattle.std.specs.List.{flat_map, AllByRecursion}
 use Rattle.std.specs.Int.{w32}
 use Rattle.std.proofs.lemmas.Bool.{eqb-true}
@@ -28,7 +29,7 @@ use Rattle.n41_attr.specs.Parts.{bad_arm}
 use Rattle.n41_attr.proofs.PartsLawful.{apart}
 use Rattle.n41_cbmsg.specs.declared.fault.MsgFault.{MsgFault}
 use Rattle.n41_cbmsg.specs.declared.compounds.Arguments.{Arguments}
-use Rattle.n41_cbmsg.specs.Reading.{of_rpc}
+use Rattle.n41_cbmsg.specs.Reading.{of_rpc, IsRead}
 use Rattle.n41_cbmsg.specs.Arguments.{is_served, argument, argument_arm, argument_rows}
 use Rattle.n41_cbmsg.specs.Calls.{is_compound, front, Seen, with, argued, numbered, ops_seen, none_read, with_minor, minor_and_count, behind_front, arguments_at, call_of, behind_head, call_at, SpellsTail, SpellsOps, SpellsArguments, SpellsBehind, arguments_of, SpellsCall, TailFits, CallFits, written_behind, written_call}
 use Rattle.n41_cbmsg.proofs.OpsLoop.{with_ops, seen_as}
@@ -433,3 +434,7 @@ unfolding spoken called
 spelled_call_fits c bytes s =
     let f = s.fits.1.1.1 in
     (s.fits.0, f.0, f.1.0, f.1.1.0, tail_fits c.ops.tail (is_compound c.prog c.vers c.procedure) c.minor c.ops.list s.rest s.behind)
+
+pub read_call_fits : (bytes : List ℕ) (r : Result CbCall MsgFault) → IsBytes bytes → IsRead r (call_at bytes) → IfOk r (λ c. CallFits c)
+read_call_fits bytes (Ok c) fits e = spelled_call_fits c bytes (read_call_spelled c bytes fits e)
+read_call_fits bytes (Err f) fits e = tt

@@ -126,10 +126,8 @@ fn read_body(alloc: Global, r: &mut Reader, body: HeadBody) -> Result<CbBody, Ms
     }
 }
 
-/// Reads the answer to a callback (RFC 5531, reply_body; RFC 8881, CB_COMPOUND4res). The verifier, the tag and the versions behind
-/// PROG_MISMATCH are not kept. An accepted reply of no bytes behind its head is Null.
 #[tactic(auto, unfolding(crate::specs::Answers::answer_at))]
-pub fn read_answer(alloc: Global, bytes: &[u8]) -> Result<CbReply, MsgFault>
+fn read_whole(alloc: Global, bytes: &[u8]) -> Result<CbReply, MsgFault>
     ensures { IsRead result (answer_at bytes.now) }
 {
     let mut r = Reader::new(bytes);
@@ -140,6 +138,15 @@ pub fn read_answer(alloc: Global, bytes: &[u8]) -> Result<CbReply, MsgFault>
             body: read_body(alloc, &mut r, head.body)?,
         }),
     }
+}
+
+/// Reads the answer to a callback (RFC 5531, reply_body; RFC 8881, CB_COMPOUND4res). The verifier, the tag and the versions behind
+/// PROG_MISMATCH are not kept. An accepted reply of no bytes behind its head is Null.
+pub fn read_answer(alloc: Global, bytes: &[u8]) -> Result<CbReply, MsgFault>
+    ensures read { IsRead result (answer_at bytes.now) }
+    ensures fits { IfOk result (λ r. AnswerFits r) }
+{
+    read_whole(alloc, bytes)
 }
 
 /// The verifier AUTH_NONE, and PROG_MISMATCH with the versions that are served.

@@ -12,10 +12,8 @@ use n41_types::{Bytes, NoMemory};
 use n41_xdr::{Reader, Writer};
 use std::alloc::Global;
 
-/// Reads a callback (RFC 5531, call_body; RFC 8881, CB_COMPOUND4args). Only a bad head is refused. The credential, the verifier, the
-/// tag and the callback_ident are not kept; from an operation that is not served on, nothing is read.
 #[tactic(auto, unfolding(crate::specs::Calls::call_at))]
-pub fn read_call(alloc: Global, bytes: &[u8]) -> Result<CbCall, MsgFault>
+fn read_whole(alloc: Global, bytes: &[u8]) -> Result<CbCall, MsgFault>
     ensures { IsRead result (call_at bytes.now) }
 {
     let mut r = Reader::new(bytes);
@@ -33,6 +31,15 @@ pub fn read_call(alloc: Global, bytes: &[u8]) -> Result<CbCall, MsgFault>
             })
         }
     }
+}
+
+/// Reads a callback (RFC 5531, call_body; RFC 8881, CB_COMPOUND4args). Only a bad head is refused. The credential, the verifier, the
+/// tag and the callback_ident are not kept; from an operation that is not served on, nothing is read.
+pub fn read_call(alloc: Global, bytes: &[u8]) -> Result<CbCall, MsgFault>
+    ensures read { IsRead result (call_at bytes.now) }
+    ensures fits { IfOk result (λ c. CallFits c) }
+{
+    read_whole(alloc, bytes)
 }
 
 /// Writes a callback, with AUTH_NONE as credential and verifier, an empty tag and callback_ident 0. Behind an operation that is not

@@ -17,3 +17,6 @@ pub use laws::{
     messages_are_read_where_spelled, messages_have_one_value, no_spelling_begins_another,
     operations_are_lawful, what_is_spelled_can_be_written, what_is_written_is_read,
 };
+
+#[cfg(test)]
+mod tests;
