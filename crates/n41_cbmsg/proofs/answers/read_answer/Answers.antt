@@ -1,0 +1,6 @@
+use Rattle.std.proofs.Common.{arith}
+use Rattle.n41_cbmsg.proofs.AnswersSpelled.{read_answer_fits}
+use Rattle.n41_cbmsg.proofs.answers.read_answer.Goals as goal
+
+pub returns-clause-fits : goal.returns-clause-fits
+returns-clause-fits c = read_answer_fits c.args.bytes.now c.read_whole.result (λ i. omega (arith, c.type_inv.bytes i)) c.read_whole.ensures

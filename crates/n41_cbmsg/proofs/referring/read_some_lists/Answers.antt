@@ -1,0 +1,15 @@
+use Rattle.std.proofs.lemmas.Result.{err_from_is_err_and}
+use Rattle.n41_xdr.specs.Format.{many_at}
+use Rattle.n41_xdr.proofs.Loop.{goes_on}
+use Rattle.n41_cbmsg.specs.Arguments.{referring_list}
+use Rattle.n41_cbmsg.proofs.Loops.{part_fails}
+use Rattle.n41_cbmsg.proofs.referring.read_some_lists.Goals as goal
+
+pub loop-preserved : goal.loop-preserved
+loop-preserved c =
+    rw c.in_ok-push.ensures.items (goes_on referring_list c.loop.lists.items c.args.count c.loop.counter c.loop.r c.in_ok-next.next c.read_referring_list.new.r (many_at referring_list c.args.count c.args.r.now) c.loop-test.true c.in_ok-next.ensures c.loop.invariant)
+
+pub returns-in_err-next : goal.returns-in_err-next
+returns-in_err-next c =
+    let p = err_from_is_err_and c.from_residual.result c.from_residual.ensures.1 in
+    rw (p.1, p.2) (part_fails referring_list c.in_err-next.field-0.0 c.loop.lists.items c.args.count c.loop.counter c.loop.r c.read_referring_list.new.r c.read_referring_list.new.r (many_at referring_list c.args.count c.args.r.now) c.loop-test.true c.in_err-next.ensures c.loop.invariant)
