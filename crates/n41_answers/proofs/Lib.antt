@@ -3,3 +3,4 @@ pub mod Counted
 pub mod Placed
 pub mod Law
 pub mod Rows
+pub mod Sample

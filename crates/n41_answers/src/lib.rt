@@ -4,6 +4,8 @@
 mod answers;
 mod laws;
 mod row;
+#[cfg(test)]
+mod tests;
 
 pub use answers::{Answers, answer_of};
 pub use laws::{
