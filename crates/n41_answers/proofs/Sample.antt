@@ -1,5 +1,5 @@
 -- A run of one command, in which no dial succeeds.
-use Rattle.std.proofs.Common.{◌≡◌, ◌+◌, ℕ, zero, suc, List, [], ◌∷◌, ◌++◌, replicate, Option, Some, None, refl, ap, sym, ◌∙◌, add-one, lit<, lit≤}
+use Rattle.std.proofs.Common.{◌≡◌, ℕ, zero, suc, List, [], ◌∷◌, ◌++◌, replicate, None, refl, lit<, lit≤}
 use Rattle.n41_types.specs.declared.commands.Answer.TheVariants.{Unreachable}
 use Rattle.n41_types.specs.declared.commands.Command.TheVariants.{Stat}
 use Rattle.n41_journal.specs.declared.events.Event.{Event}

@@ -3,7 +3,7 @@ ghost use Rattle.n41_model.specs.declared.words.Setup.{Setup};
 ghost use Rattle.n41_answers.specs.Indexed.{Indexes};
 ghost use Rattle.n41_journal.specs.Journal.{event_at};
 ghost use Rattle.n41_answers.specs.Answers.{HasAnswer, lists, noted, place_in, answer_in};
-ghost use Rattle.n41_answers.specs.Index.{Index, Entry, places_of, room_of, spent};
+ghost use Rattle.n41_answers.specs.Index.{places_of, room_of, spent};
 
 use crate::row::Row;
 use n41_journal::{Event, Journal};

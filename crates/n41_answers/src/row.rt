@@ -1,5 +1,4 @@
 ghost use Rattle.std.specs.Prelude.{◌≡◌, ◌∷◌, ◌++◌, ◌-◌, ◌<◌, ◌≤◌, [], OnOk};
-ghost use Rattle.n41_answers.specs.Index.{Entry};
 ghost use Rattle.n41_answers.specs.Answers.{numbered};
 
 use n41_types::NoMemory;
