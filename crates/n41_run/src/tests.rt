@@ -98,7 +98,7 @@ fn a_probe_prints_what_the_reply_says(rt: HostRuntime) -> Result<(), Fail> {
     assert_eq!(rt; sink.bytes(), LINE);
     assert!(rt; ended.clock.gave(5) && !ended.clock.gave(6));
     let talk = ended.probed.ok_or("there was a connection")?;
-    assert_eq!(rt; talk.mouth.said(), CALL);
+    assert_eq!(rt; talk.mouth.outflow().inner().bytes(), CALL);
     Ok(())
 }
 
