@@ -186,6 +186,7 @@ impl<I: Inflow> Ear<I> {
     fn hear(&mut self) -> Result<EarGot, EarFault>
         ensures grows { (more : List ℕ) × (ear_log self.new ≡ ear_log self.old ++ more) }
         ensures hears { Hears result (ear_gather self.old) (ear_gather self.new) }
+        ensures waits { 0 < length (ear_gather self.old).waiting → (ear_inflow self.new ≡ ear_inflow self.old) × (ear_log self.new ≡ ear_log self.old) }
         ensures fault { ear_fault self.new ≡ ear_fault self.old }
         ensures stills { Stills (ear_log self.old) (ear_log self.new) (ear_still self.old) (ear_still self.new) (got_quiet result) }
         ensures faults { Counts (I.faults (ear_inflow self.old)) (I.faults (ear_inflow self.new)) (failed_to_hear result) }
@@ -217,6 +218,7 @@ impl<I: Inflow> Ear<I> {
     pub fn whole(&mut self) -> Result<EarGot, EarFault>
         ensures grows { (more : List ℕ) × (ear_log self.new ≡ ear_log self.old ++ more) }
         ensures hears { ear_fault self.old ≡ None → Hears result (ear_gather self.old) (ear_gather self.new) }
+        ensures waits { 0 < length (ear_gather self.old).waiting → (ear_inflow self.new ≡ ear_inflow self.old) × (ear_log self.new ≡ ear_log self.old) }
         ensures again { IfSome (ear_fault self.old) (λ fault. (result ≡ Err fault) × (self.new ≡ self.old)) }
         ensures kept { OnOk result (ear_fault self.new ≡ None) }
         ensures fault { IfErr result (λ fault. ear_fault self.new ≡ Some fault) }

@@ -23,6 +23,7 @@ loop-body-preserved g c =
         heard = λ longer. said.stills.heard said.bytes;
       };
       given = said.given ∙ none_more _ _ c.in_default.ensures.given ∙ inv.given;
+      waits = λ some. absurd (omega (arith, some, ap length (inv.waits some).0, ap length c.in_default.ensures.none));
       fault = said.fault ∙ inv.fault;
       grows = grown;
       faults = omega (arith, inv.faults, said.faults.later);
