@@ -11,7 +11,7 @@ record and answers by MODE:
   rubbish    a lawful record that is no RPC message
   half       half of the lawful reply, then the end
   huge       a header that claims 0xFFFFFFFF bytes, and nothing behind it
-  fragment   a record whose first fragment is not its last
+  fragments  the lawful reply in three fragments
   silent     nothing, until the other side ends
 """
 import os
@@ -33,14 +33,22 @@ def record(body):
     return words(0x80000000 | len(body)) + body
 
 
+def fragments(body):
+    return words(5) + body[:5] + words(0) + record(body[5:])
+
+
 def head(xid, status):
     accepted = words(xid, 1, 0, 0) + opaque(b"") + words(0)
     return accepted + words(status) + opaque(b"") + words(1, 42, status)
 
 
-def reply(xid):
+def reply_body(xid):
     ids = struct.pack(">QIII", 7, 1, 0x00010000, 0) + struct.pack(">Q", 0)
-    return record(head(xid, 0) + ids + opaque(b"srv") + opaque(b"srv") + words(0))
+    return head(xid, 0) + ids + opaque(b"srv") + opaque(b"srv") + words(0)
+
+
+def reply(xid):
+    return record(reply_body(xid))
 
 
 def read_record(peer):
@@ -73,8 +81,8 @@ def respond(peer, mode):
         return
     elif mode == "huge":
         peer.sendall(words(0xFFFFFFFF))
-    elif mode == "fragment":
-        peer.sendall(words(8) + b"fragment")
+    elif mode == "fragments":
+        peer.sendall(fragments(reply_body(1)))
     elif mode != "silent":
         sys.exit("no such mode: " + mode)
     while peer.recv(4096):

@@ -174,8 +174,8 @@ answered_by rubbish rubbish
 expect rubbish 7 "" "$breach"
 answered_by half half
 expect half 6 "" "$unreachable"
-answered_by fragment fragment
-expect fragment 6 "" "$unreachable"
+answered_by fragments fragments
+expect fragments 0 "$line" ""
 answered_by huge huge
 expect huge 6 "" "$unreachable"
 [ "$(cat "$state/huge.memory")" -lt 65536 ]

@@ -1,37 +1,32 @@
 -- What an ear answers, beside the bytes that it has read. (own)
-use Rattle.std.specs.Prelude.{◌≡◌, ◌⊎◌, ◌++◌, ◌<◌, ◌≤◌, ◌+◌, ◌-◌, ◌^◌, min, ℕ, Bool, true, false, List, length, drop, Result, Ok, Err}
-use Rattle.n41_link.specs.Marks.{Begins, IsRefused, IsPartial, mark, longest}
-use Rattle.n41_link.specs.declared.mark.Front.{Front}
-use Rattle.n41_link.specs.declared.mark.Front.TheVariants.{Record, Wants, Unlawful}
+use Rattle.std.specs.Prelude.{◌≡◌, ◌<◌, ◌+◌, ◌-◌, ◌^◌, min, ℕ, Bool, true, false, List, [], ◌∷◌, ◌++◌, length, Result, Ok, Err}
+use Rattle.n41_record.specs.Gathered.{Gathered}
+use Rattle.n41_record.specs.Streams.{Records, Refused, BeginsWith}
 use Rattle.n41_link.specs.declared.ear.EarGot.{EarGot}
 use Rattle.n41_link.specs.declared.ear.EarGot.TheVariants.{Whole, Quiet, End}
 use Rattle.n41_link.specs.declared.ear.EarFault.{EarFault}
-use Rattle.n41_link.specs.declared.ear.EarFault.TheVariants.{Failed, Refused, NoMemory}
+use Rattle.n41_link.specs.declared.ear.EarFault.TheVariants.{Failed, Gather, NoMemory}
 
--- bytes at whose front no record stands before there are n of them: the header is not whole, or it marks a record of so many with its header
-abbrev pub Needs : ℕ → List ℕ → Type 0
-Needs n bytes = (n ≡ 4) ⊎ ((len : ℕ) × (rest : List ℕ) × (bytes ≡ mark len ++ rest) × (len ≤ longest) × (n ≡ 4 + len))
+-- what was read begins with the records that were given
+abbrev pub GivesFirst : Gathered → Type 0
+GivesFirst g = (rest : List ℕ) × BeginsWith g.fed g.given rest
 
--- what stands at the front of the bytes
-abbrev pub IsFront : Front → List ℕ → Type 0
-IsFront (Record body) bytes = (rest : List ℕ) × Begins bytes body.now rest
-IsFront (Wants n) bytes = (length bytes < n) × (n ≤ 2 ^ 22) × Needs n bytes
-IsFront Unlawful bytes = IsRefused bytes
+-- each whole record of what was read was given
+abbrev pub GaveAll : Gathered → Type 0
+GaveAll g = (g.waiting ≡ []) × ((rest : List ℕ) × Records g.fed g.given rest)
 
--- the same, of the bytes from a place in a log on
-abbrev pub IsFrontAt : Front → List ℕ → ℕ → Type 0
-IsFrontAt (Record body) log at = Begins (drop at log) body.now (drop (at + (4 + length body.now)) log) × (at + (4 + length body.now) ≤ length log)
-IsFrontAt (Wants n) log at = (length log < at + n) × (n ≤ 2 ^ 22) × Needs n (drop at log)
-IsFrontAt Unlawful log at = IsRefused (drop at log)
+-- A record that was heard is the next one. Else none is given: it was quiet, ended or failed where none was left, or behind all records stood one that passes a limit.
+abbrev pub Hears : Result EarGot EarFault → Gathered → Gathered → Type 0
+Hears (Ok (Whole body)) old new = (new.given ≡ old.given ++ body ∷ []) × GivesFirst new
+Hears (Ok Quiet) old new = (new.given ≡ old.given) × GaveAll new
+Hears (Ok End) old new = (new.given ≡ old.given) × GaveAll new
+Hears (Err Failed) old new = (new.given ≡ old.given) × GaveAll new
+Hears (Err (Gather fault)) old new = (new.given ≡ old.given) × (new.waiting ≡ []) × ((rest : List ℕ) × Refused new.fed new.given rest fault)
+Hears (Err NoMemory) old new = (new.given ≡ old.given) × (new.waiting ≡ []) × GivesFirst new
 
--- A record that was heard is the one at the place before, and the place moves behind it. Else the place stays: it was quiet, ended or failed where no whole record stood, and was refused where a header there begins none.
-abbrev pub Hears : Result EarGot EarFault → List ℕ → ℕ → ℕ → Type 0
-Hears (Ok (Whole body)) log before now = Begins (drop before log) body (drop now log) × (now ≡ before + (4 + length body)) × (now ≤ length log)
-Hears (Ok Quiet) log before now = (now ≡ before) × IsPartial (drop before log)
-Hears (Ok End) log before now = (now ≡ before) × IsPartial (drop before log)
-Hears (Err Failed) log before now = (now ≡ before) × IsPartial (drop before log)
-Hears (Err Refused) log before now = (now ≡ before) × IsRefused (drop before log)
-Hears (Err NoMemory) log before now = now ≡ before
+-- a count up to the last value of its type
+abbrev pub capped : ℕ → ℕ
+capped n = min n (2 ^ 64 - 1)
 
 -- one more where it was quiet, up to the last value of the type
 abbrev pub one_more : ℕ → Bool → ℕ
@@ -59,5 +54,5 @@ got_end (Err e) = false
 abbrev pub failed_to_hear : Result EarGot EarFault → Bool
 failed_to_hear (Ok got) = false
 failed_to_hear (Err Failed) = true
-failed_to_hear (Err Refused) = false
+failed_to_hear (Err (Gather fault)) = false
 failed_to_hear (Err NoMemory) = false

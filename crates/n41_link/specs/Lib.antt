@@ -3,7 +3,6 @@ pub mod Ends
 pub mod Flow
 pub mod Heard
 pub mod Links
-pub mod Marks
 pub mod Moments
 pub mod Reads
 pub mod Said

@@ -1,9 +1,9 @@
--- What reading adds to an ear's log. (own)
+-- What reading adds to the bytes that an ear has read. (own)
 use Rattle.std.specs.Prelude.{◌≡◌, ◌<◌, ℕ, Bool, true, false}
 use Rattle.n41_link.specs.declared.ear.Reading.{Reading}
 use Rattle.n41_link.specs.declared.ear.Reading.TheVariants.{Enough, Quiet, End, Failed, NoMemory}
 
--- the length of the log before and after a read
+-- how many bytes were read before and after a read
 abbrev pub GrowsAt : Reading → ℕ → ℕ → Type 0
 GrowsAt Enough before now = before < now
 GrowsAt Quiet before now = now ≡ before

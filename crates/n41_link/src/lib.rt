@@ -4,9 +4,9 @@
 mod connection;
 mod ear;
 mod machine;
-mod mark;
 mod moments;
 mod mouth;
+mod sent;
 mod standard;
 mod stream;
 mod tcp;

@@ -1,13 +1,14 @@
 // The end of a connection that says records.
-ghost use Rattle.std.specs.Prelude.{true, false, ◌≡◌, ◌≤◌, ◌<◌, ◌+◌, ◌++◌, ◌^◌, [], ℕ, List, length, take, Some, None, Ok, Err, OnErr, OnOk, IfErr, IfSome, IsErrOf};
+ghost use Rattle.std.specs.Prelude.{true, false, ◌≡◌, ◌≤◌, ◌<◌, ◌++◌, [], ℕ, List, length, take, drop, Some, None, Err, OnOk, IfErr, IfSome, IsErrOf};
+ghost use Rattle.n41_record.specs.Fragments.{most_bytes};
 ghost use Rattle.n41_link.specs.Counts.{Counts};
 ghost use Rattle.n41_link.specs.Flow.{KnownAs};
 ghost use Rattle.n41_link.specs.Said.{Says, failed_to_say};
-ghost use Rattle.n41_link.specs.Marks.{marked, longest};
 ghost use Rattle.n41_link.specs.declared.mouth.SayFault.TheVariants as why;
 
 use crate::connection::Outflow;
-use crate::mark::{put_record, rest_of};
+use crate::sent::Sent;
+use n41_record::append_marked;
 use std::alloc::Global;
 
 /// Why a mouth says no more.
@@ -18,13 +19,14 @@ pub enum SayFault {
     NoMemory,
 }
 
-/// Says records to an outflow. It keeps a log of all bytes that it has written.
+/// Says records to an outflow. What it has written stays for contracts alone.
 #[derive(Drop)]
 pub struct Mouth<O: Outflow> {
     outflow: O,
-    log: Vec<u8>,
+    record: Vec<u8>,
+    sent: Sent,
     fault: Option<SayFault>,
-    ghost told: { KnownAs (O.put outflow) log.items },
+    ghost told: { KnownAs (O.put outflow) sent.bytes },
     ghost failed: { fault ≡ Some why.Failed → 0 < O.faults outflow },
 }
 
@@ -33,6 +35,14 @@ pub struct Mouth<O: Outflow> {
 struct Written {
     len: usize,
     failed: bool,
+}
+
+// The text from a place on.
+fn rest_of(text: &[u8], at: usize) -> &[u8]
+    requires { at ≤ length text.now }
+    ensures { result.now ≡ drop at text.now }
+{
+    &text[at..]
 }
 
 // Writes a text, whole in the first call, and what is left of it in further ones.
@@ -53,26 +63,33 @@ fn write_text<O: Outflow>(outflow: &mut O, text: &[u8]) -> Written
     Written { len, failed: false }
 }
 
-fn len_of(log: &Vec<u8>) -> usize
-    ensures { result ≡ length log.now.items }
+// The text up to a place.
+fn front_of(text: &[u8], len: usize) -> &[u8]
+    requires { len ≤ length text.now }
+    ensures { result.now ≡ take len text.now }
 {
-    log.len()
+    &text[..len]
 }
 
-// Puts a record at the end of the log and writes it, or takes back what was not written.
-fn say_record<O: Outflow>(outflow: &mut O, log: &mut Vec<u8>, bytes: &[u8]) -> Result<(), SayFault>
-    requires { length bytes.now ≤ longest }
-    ensures says { Says result log.old.items log.new.items bytes.now }
-    ensures told { KnownAs (O.put outflow.old) log.old.items → KnownAs (O.put outflow.new) log.new.items }
+// Fills a kept buffer with a record and writes it, and keeps for contracts what was written.
+fn say_record<O: Outflow>(
+    outflow: &mut O,
+    record: &mut Vec<u8>,
+    sent: &mut Sent,
+    bytes: &[u8],
+) -> Result<(), SayFault>
+    requires { length bytes.now ≤ most_bytes }
+    ensures says { Says result sent.old.bytes sent.new.bytes bytes.now }
+    ensures told { KnownAs (O.put outflow.old) sent.old.bytes → KnownAs (O.put outflow.new) sent.new.bytes }
     ensures cause { Counts (O.faults outflow.old) (O.faults outflow.new) (failed_to_say result) }
 {
-    let start = len_of(log);
-    let Ok(()) = put_record(log, bytes) else {
+    record.clear();
+    if append_marked(record, bytes).is_err() {
         return Err(SayFault::NoMemory);
-    };
-    let written = write_text(outflow, rest_of(log, start));
+    }
+    let written = write_text(outflow, record);
+    *sent = sent.with_piece(front_of(record, written.len));
     if written.failed {
-        log.truncate(start + written.len);
         return Err(SayFault::Failed);
     }
     Ok(())
@@ -90,17 +107,10 @@ impl<O: Outflow> Mouth<O> {
     {
         Mouth {
             outflow,
-            log: Vec::new(alloc),
+            record: Vec::new(alloc),
+            sent: Sent::empty(),
             fault: None,
         }
-    }
-
-    /// All bytes that it has written.
-    pub fn said(&self) -> &[u8]
-        ensures log { result.now ≡ mouth_log self.now }
-        ensures told { KnownAs (O.put (mouth_outflow self.now)) result.now }
-    {
-        &self.log
     }
 
     /// What it writes to.
@@ -112,7 +122,7 @@ impl<O: Outflow> Mouth<O> {
 
     /// Writes the record of these bytes, all in one call where the outflow takes it whole. After a fault it answers that fault from then on.
     pub fn say(&mut self, bytes: &[u8]) -> Result<(), SayFault>
-        requires { length bytes.now ≤ longest }
+        requires { length bytes.now ≤ most_bytes }
         ensures says { mouth_fault self.old ≡ None → Says result (mouth_log self.old) (mouth_log self.new) bytes.now }
         ensures again { IfSome (mouth_fault self.old) (λ fault. (result ≡ Err fault) × (self.new ≡ self.old)) }
         ensures kept { OnOk result (mouth_fault self.new ≡ None) }
@@ -124,7 +134,7 @@ impl<O: Outflow> Mouth<O> {
         if let Some(fault) = self.fault {
             return Err(fault);
         }
-        let said = say_record(&mut self.outflow, &mut self.log, bytes);
+        let said = say_record(&mut self.outflow, &mut self.record, &mut self.sent, bytes);
         if let Err(fault) = &said {
             self.fault = Some(*fault);
         }

@@ -26,7 +26,7 @@ fn heard(alloc: Global, pieces: &[&[u8]], fails: &[u64]) -> Result<String, Fail>
             Ok(EarGot::Whole(body)) => format!(in alloc; "{:?}", body.as_slice())?,
             Ok(EarGot::Quiet) => String::from_str(alloc, "quiet")?,
             Ok(EarGot::End) => String::from_str(alloc, "end")?,
-            Err(EarFault::Refused) => String::from_str(alloc, "refused")?,
+            Err(EarFault::Gather(fault)) => format!(in alloc; "{fault}")?,
             Err(EarFault::Failed) => String::from_str(alloc, "failed")?,
             Err(EarFault::NoMemory) => String::from_str(alloc, "no memory")?,
         };
@@ -41,7 +41,7 @@ fn heard(alloc: Global, pieces: &[&[u8]], fails: &[u64]) -> Result<String, Fail>
 #[test]
 fn an_ear_hears_records_however_they_are_cut(rt: HostRuntime) -> Result<(), Fail> {
     let mark: &[u8] = &[0x80, 0, 0, 2];
-    let rows: [(&[&[u8]], &[u64], &str); 9] = [
+    let rows: [(&[&[u8]], &[u64], &str); 8] = [
         (
             &[&[0x80], &[0], &[0], &[2], &[7], &[8]],
             &[],
@@ -59,19 +59,14 @@ fn an_ear_hears_records_however_they_are_cut(rt: HostRuntime) -> Result<(), Fail
         ),
         (&[mark, &[7]], &[], "end 0, end 0, end 0, end 0, 5"),
         (
-            &[&[0, 0, 0, 2, 7, 8]],
+            &[&[0, 0, 0, 1, 7, 0x80, 0], &[0, 1, 8], &[0, 0, 0, 1, 9]],
             &[],
-            "refused 0, refused 0, refused 0, refused 0, 6",
+            "[7, 8] 0, end 0, end 0, end 0, 15",
         ),
         (
-            &[&[0x80, 0x11, 0, 1]],
+            &[&[0x80, 0, 0, 1, 7, 0x80, 0x11, 0, 1]],
             &[],
-            "refused 0, refused 0, refused 0, refused 0, 4",
-        ),
-        (
-            &[&[0xff, 0xff, 0xff, 0xff]],
-            &[],
-            "refused 0, refused 0, refused 0, refused 0, 4",
+            "[7] 0, a record of 1114113 bytes or more 0, a record of 1114113 bytes or more 0, a record of 1114113 bytes or more 0, 9",
         ),
         (
             &[&[0x80, 0x11, 0, 0], &[]],
@@ -143,8 +138,7 @@ fn a_mouth_says_each_record_in_one_call_where_it_is_taken_whole(
         assert_eq!(rt; first.is_ok() && second.is_ok(), ok);
         assert!(rt; ok || second == Err(SayFault::Failed));
         assert!(rt; said <= whole.len());
-        assert_eq!(rt; mouth.said(), &whole[..said], "at {most}");
-        assert_eq!(rt; mouth.outflow().put.as_slice(), mouth.said());
+        assert_eq!(rt; mouth.outflow().put.as_slice(), &whole[..said], "at {most}");
         assert_eq!(rt; mouth.outflow().calls, calls, "at {most}");
     }
     Ok(())

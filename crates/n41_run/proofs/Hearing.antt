@@ -1,10 +1,10 @@
 -- The first record that was heard, as it is lent out.
-use Rattle.std.proofs.Common.{◌≡◌, ℕ, List, subst}
-use Rattle.n41_link.specs.Marks.{Begins}
+use Rattle.std.proofs.Common.{◌≡◌, ℕ, List, [], ◌∷◌, subst}
+use Rattle.n41_record.specs.Streams.{BeginsWith}
 use Rattle.n41_run.specs.Exchange.{Exchange, IsReply}
 use Rattle.n41_run.specs.Probed.{HearsNone}
 
-pub hears_none : (log body lent rest : List ℕ) → lent ≡ body → Begins log body rest → ((x : Exchange) → IsReply x lent → ⊥) → HearsNone log
+pub hears_none : (log body lent rest : List ℕ) → lent ≡ body → BeginsWith log (body ∷ []) rest → ((x : Exchange) → IsReply x lent → ⊥) → HearsNone log
 hears_none log body lent rest e first none = record {
   body = body;
   rest = rest;

@@ -2,7 +2,8 @@
 use Rattle.std.specs.Prelude.{◌≡◌, ◌<◌, ◌≤◌, ◌⊎◌, ℕ, List, [], ◌++◌, codes, Result, Ok, Err, Some, None}
 use Rattle.std.specs.declared.option.Option.{Option}
 use Rattle.std.specs.Fmt.{decimal}
-use Rattle.n41_link.specs.Marks.{IsRefused}
+use Rattle.n41_record.specs.declared.fault.GatherFault.{GatherFault}
+use Rattle.n41_record.specs.Streams.{Refused}
 use Rattle.n41_run.specs.Words.{IsFirstBad}
 use Rattle.n41_run.specs.declared.fault.RunFault.{RunFault}
 use Rattle.n41_run.specs.declared.fault.RunFault.TheVariants.{Words, ReadFault, WriteFault, Unreachable, Breach, NoMemory}
@@ -54,6 +55,10 @@ IsOfRun words (Some (Unreachable rounds)) = rounds ≡ 1
 IsOfRun words (Some (Breach event)) = event ≡ 0
 IsOfRun words (Some NoMemory) = Unit {0}
 
--- Why no record came: what was read from failed or ended, what came begins no record, or nothing came for 60 turns.
+-- the first record that was read passes a limit
+abbrev pub PassesAtOnce : List ℕ → Type 0
+PassesAtOnce log = (rest : List ℕ) × (fault : GatherFault) × Refused log [] rest fault
+
+-- Why no record came: what was read from failed or ended, the first record passes a limit, or nothing came for 60 turns.
 abbrev pub IsCut : ℕ → ℕ → List ℕ → ℕ → Type 0
-IsCut faults ends log still = (0 < faults) ⊎ ((0 < ends) ⊎ (IsRefused log ⊎ (60 ≤ still)))
+IsCut faults ends log still = (0 < faults) ⊎ ((0 < ends) ⊎ (PassesAtOnce log ⊎ (60 ≤ still)))

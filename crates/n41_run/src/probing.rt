@@ -1,10 +1,11 @@
 // One EXCHANGE_ID over one connection.
-ghost use Rattle.std.specs.Prelude.{◌≡◌, ◌≤◌, ◌<◌, ◌++◌, [], ℕ, List, IsTrue, length, take, Some, None, ◌⊎◌, IfOk, IfErr, IfSome, IfNone, OnOk, IsSomeAnd};
+ghost use Rattle.std.specs.Prelude.{◌≡◌, ◌≤◌, ◌<◌, ◌++◌, ◌∷◌, true, [], ℕ, List, IsTrue, length, take, Some, None, ◌⊎◌, IfOk, IfErr, IfSome, IfNone, OnOk, IsSomeAnd};
 ghost use Rattle.std.specs.Io.KnownBytes.{append_known};
 ghost use Rattle.n41_link.specs.Counts.{Rose};
-ghost use Rattle.n41_link.specs.Ends.{ear_log, ear_place, ear_inflow, ear_fault, ear_still, mouth_log, mouth_outflow, mouth_fault};
+ghost use Rattle.n41_link.specs.Ends.{ear_log, ear_given, ear_inflow, ear_fault, ear_still, mouth_log, mouth_outflow, mouth_fault};
 ghost use Rattle.n41_link.specs.Flow.{KnownAs};
-ghost use Rattle.n41_link.specs.Marks.{marked, Begins};
+ghost use Rattle.n41_record.specs.Fragments.{fragment};
+ghost use Rattle.n41_record.specs.Streams.{BeginsWith};
 ghost use Rattle.n41_link.specs.Moments.{StandsAt};
 ghost use Rattle.n41_run.specs.Causes.{status_of, status, IsCut, IsOfProbe};
 ghost use Rattle.n41_run.specs.Exchange.{Exchange, view, request, line, IsReply};
@@ -25,7 +26,7 @@ const PATIENCE: u64 = 60;
 fn ask<O: Outflow>(alloc: Global, moment: u64, mouth: &mut Mouth<O>) -> Result<(), RunFault>
     requires log { mouth_log mouth.old ≡ [] }
     requires fault { mouth_fault mouth.old ≡ None }
-    ensures said { OnOk result (mouth_log mouth.new ≡ marked (request moment)) }
+    ensures said { OnOk result (mouth_log mouth.new ≡ fragment true (request moment)) }
     ensures begun { BeginsToAsk moment (mouth_log mouth.new) }
     ensures cut { status_of result ≡ 6 → 0 < O.faults (mouth_outflow mouth.new) }
     ensures wrong { status_of result ≡ 7 → ⊥ }
@@ -44,10 +45,10 @@ fn ask<O: Outflow>(alloc: Global, moment: u64, mouth: &mut Mouth<O>) -> Result<(
 
 /// The first record that comes.
 fn first_record<I: Inflow>(ear: &mut Ear<I>) -> Result<Bytes, RunFault>
-    requires place { ear_place ear.old ≡ 0 }
+    requires given { ear_given ear.old ≡ [] }
     requires fault { ear_fault ear.old ≡ None }
-    ensures ok { IfOk result (λ body. (rest : List ℕ) × Begins (ear_log ear.new) body rest) }
-    ensures cut { status_of result ≡ 6 → (ear_place ear.new ≡ 0) × IsCut (I.faults (ear_inflow ear.new)) (I.ends (ear_inflow ear.new)) (ear_log ear.new) (ear_still ear.new) }
+    ensures ok { IfOk result (λ body. (rest : List ℕ) × BeginsWith (ear_log ear.new) (body ∷ []) rest) }
+    ensures cut { status_of result ≡ 6 → (ear_given ear.new ≡ []) × IsCut (I.faults (ear_inflow ear.new)) (I.ends (ear_inflow ear.new)) (ear_log ear.new) (ear_still ear.new) }
     ensures wrong { status_of result ≡ 7 → ⊥ }
     ensures write { status_of result ≡ 5 → ⊥ }
     ensures fault { IfErr result (λ fault. IsOfProbe (Some fault)) }
@@ -59,7 +60,7 @@ fn first_record<I: Inflow>(ear: &mut Ear<I>) -> Result<Bytes, RunFault>
             Ok(EarGot::End) => return Err(RunFault::Unreachable(1)),
             Err(EarFault::NoMemory) => return Err(RunFault::NoMemory),
             Err(EarFault::Failed) => return Err(RunFault::Unreachable(1)),
-            Err(EarFault::Refused) => return Err(RunFault::Unreachable(1)),
+            Err(EarFault::Gather(_)) => return Err(RunFault::Unreachable(1)),
         }
     }
     Err(RunFault::Unreachable(1))
@@ -95,14 +96,14 @@ fn exchange<K: Sink, I: Inflow, O: Outflow>(
     ear: &mut Ear<I>,
     mouth: &mut Mouth<O>,
 ) -> Result<(), RunFault>
-    requires place { ear_place ear.old ≡ 0 }
+    requires given { ear_given ear.old ≡ [] }
     requires ear_fault { ear_fault ear.old ≡ None }
     requires log { mouth_log mouth.old ≡ [] }
     requires mouth_fault { mouth_fault mouth.old ≡ None }
     ensures done { OnOk result (IsProbed moment (K.taken sink.old) (K.taken sink.new) (ear_log ear.new) (mouth_log mouth.new)) }
     ensures asks { BeginsToAsk moment (mouth_log mouth.new) }
-    ensures cut { status_of result ≡ 6 → (ear_place ear.new ≡ 0) × ((0 < O.faults (mouth_outflow mouth.new)) ⊎ IsCut (I.faults (ear_inflow ear.new)) (I.ends (ear_inflow ear.new)) (ear_log ear.new) (ear_still ear.new)) }
-    ensures asked { status_of result ≡ 7 → mouth_log mouth.new ≡ marked (request moment) }
+    ensures cut { status_of result ≡ 6 → (ear_given ear.new ≡ []) × ((0 < O.faults (mouth_outflow mouth.new)) ⊎ IsCut (I.faults (ear_inflow ear.new)) (I.ends (ear_inflow ear.new)) (ear_log ear.new) (ear_still ear.new)) }
+    ensures asked { status_of result ≡ 7 → mouth_log mouth.new ≡ fragment true (request moment) }
     ensures wrong { status_of result ≡ 7 → HearsNone (ear_log ear.new) }
     ensures write { status_of result ≡ 5 → Rose (K.faults sink.old) (K.faults sink.new) }
     ensures part { status_of result ≡ 5 → IsPartlyProbed moment (K.taken sink.old) (K.taken sink.new) (ear_log ear.new) (mouth_log mouth.new) }
@@ -141,10 +142,10 @@ pub fn probe<K: Sink, D: Dialer, C: Clock>(
     // Status 6: there is no connection, or one that brought no record.
     ensures linked { IfNone result.2 (result.0 ≡ 6) }
     ensures unreachable { IfNone result.2 (Rose (D.faults dialer.old) (D.faults dialer.new)) }
-    ensures cut { result.0 ≡ 6 → IfSome result.2 (λ talk. (ear_place talk.ear ≡ 0) × ((0 < D.O.faults (mouth_outflow talk.mouth)) ⊎ IsCut (D.I.faults (ear_inflow talk.ear)) (D.I.ends (ear_inflow talk.ear)) (ear_log talk.ear) (ear_still talk.ear))) }
+    ensures cut { result.0 ≡ 6 → IfSome result.2 (λ talk. (ear_given talk.ear ≡ []) × ((0 < D.O.faults (mouth_outflow talk.mouth)) ⊎ IsCut (D.I.faults (ear_inflow talk.ear)) (D.I.ends (ear_inflow talk.ear)) (ear_log talk.ear) (ear_still talk.ear))) }
 
     // Status 7: the request was written, and the first record is no such reply.
-    ensures asked { result.0 ≡ 7 → IsSomeAnd result.2 (λ talk. mouth_log talk.mouth ≡ marked (request (C.last clock.new))) }
+    ensures asked { result.0 ≡ 7 → IsSomeAnd result.2 (λ talk. mouth_log talk.mouth ≡ fragment true (request (C.last clock.new))) }
     ensures wrong { result.0 ≡ 7 → IsSomeAnd result.2 (λ talk. HearsNone (ear_log talk.ear)) }
 
     ensures silent { 5 < result.0 → K.taken sink.new ≡ K.taken sink.old }

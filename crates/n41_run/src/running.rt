@@ -1,9 +1,9 @@
 // All that the program does.
-ghost use Rattle.std.specs.Prelude.{◌≡◌, ◌<◌, ◌⊎◌, ◌↔◌, ℕ, map, string_bytes, IsTrue, Some, None, IfSome, IfNone, IsNone, IsSomeAnd};
+ghost use Rattle.std.specs.Prelude.{◌≡◌, ◌<◌, ◌⊎◌, ◌↔◌, true, [], ℕ, map, string_bytes, IsTrue, Some, None, IfSome, IfNone, IsNone, IsSomeAnd};
 ghost use Rattle.n41_link.specs.Counts.{Rose};
-ghost use Rattle.n41_link.specs.Ends.{ear_log, ear_place, ear_inflow, ear_still, mouth_log, mouth_outflow};
+ghost use Rattle.n41_link.specs.Ends.{ear_log, ear_given, ear_inflow, ear_still, mouth_log, mouth_outflow};
 ghost use Rattle.n41_link.specs.Flow.{KnownAs};
-ghost use Rattle.n41_link.specs.Marks.{marked};
+ghost use Rattle.n41_record.specs.Fragments.{fragment};
 ghost use Rattle.n41_link.specs.Moments.{StandsAt};
 ghost use Rattle.n41_run.specs.Causes.{status, IsCut, IsOfRun};
 ghost use Rattle.n41_run.specs.Exchange.{request};
@@ -56,8 +56,8 @@ fn act<K: Sink, D: Dialer, C: Clock>(
     ensures part { result.0 ≡ 5 → IsSomeAnd result.2 (λ talk. IsPartlyProbed (C.last clock.new) (K.taken sink.old) (K.taken sink.new) (ear_log talk.ear) (mouth_log talk.mouth)) }
     ensures linked { IfNone result.2 ((result.0 ≡ 2) ⊎ (result.0 ≡ 6)) }
     ensures unreachable { result.0 ≡ 6 → IfNone result.2 (Rose (D.faults dialer.old) (D.faults dialer.new)) }
-    ensures cut { result.0 ≡ 6 → IfSome result.2 (λ talk. (ear_place talk.ear ≡ 0) × ((0 < D.O.faults (mouth_outflow talk.mouth)) ⊎ IsCut (D.I.faults (ear_inflow talk.ear)) (D.I.ends (ear_inflow talk.ear)) (ear_log talk.ear) (ear_still talk.ear))) }
-    ensures asked { result.0 ≡ 7 → IsSomeAnd result.2 (λ talk. mouth_log talk.mouth ≡ marked (request (C.last clock.new))) }
+    ensures cut { result.0 ≡ 6 → IfSome result.2 (λ talk. (ear_given talk.ear ≡ []) × ((0 < D.O.faults (mouth_outflow talk.mouth)) ⊎ IsCut (D.I.faults (ear_inflow talk.ear)) (D.I.ends (ear_inflow talk.ear)) (ear_log talk.ear) (ear_still talk.ear))) }
+    ensures asked { result.0 ≡ 7 → IsSomeAnd result.2 (λ talk. mouth_log talk.mouth ≡ fragment true (request (C.last clock.new))) }
     ensures wrong { result.0 ≡ 7 → IsSomeAnd result.2 (λ talk. HearsNone (ear_log talk.ear)) }
     ensures silent { 5 < result.0 → K.taken sink.new ≡ K.taken sink.old }
 {
@@ -114,10 +114,10 @@ pub fn run<
     // Status 6: there is no connection, or one that brought no record.
     ensures linked { IfNone result.probed ((result.status ≡ 2) ⊎ (result.status ≡ 6)) }
     ensures unreachable { result.status ≡ 6 → IfNone result.probed (Rose (D.faults dialer) (D.faults result.dialer)) }
-    ensures cut { result.status ≡ 6 → IfSome result.probed (λ talk. (ear_place talk.ear ≡ 0) × ((0 < D.O.faults (mouth_outflow talk.mouth)) ⊎ IsCut (D.I.faults (ear_inflow talk.ear)) (D.I.ends (ear_inflow talk.ear)) (ear_log talk.ear) (ear_still talk.ear))) }
+    ensures cut { result.status ≡ 6 → IfSome result.probed (λ talk. (ear_given talk.ear ≡ []) × ((0 < D.O.faults (mouth_outflow talk.mouth)) ⊎ IsCut (D.I.faults (ear_inflow talk.ear)) (D.I.ends (ear_inflow talk.ear)) (ear_log talk.ear) (ear_still talk.ear))) }
 
     // Status 7: the request was written, and the first record is no such reply.
-    ensures asked { result.status ≡ 7 → IsSomeAnd result.probed (λ talk. mouth_log talk.mouth ≡ marked (request (C.last result.clock))) }
+    ensures asked { result.status ≡ 7 → IsSomeAnd result.probed (λ talk. mouth_log talk.mouth ≡ fragment true (request (C.last result.clock))) }
     ensures wrong { result.status ≡ 7 → IsSomeAnd result.probed (λ talk. HearsNone (ear_log talk.ear)) }
 
     ensures silent { 5 < result.status → K.taken sink.new ≡ K.taken sink.old }

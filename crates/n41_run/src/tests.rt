@@ -84,21 +84,35 @@ fn run_on<R: Threads + Wait + Sync, K: Sink>(
 
 #[test]
 fn a_probe_prints_what_the_reply_says(rt: HostRuntime) -> Result<(), Fail> {
-    let mut sink = SureSink::new(rt.alloc());
-    let outside = Outside {
-        pieces: &[&REPLY[..3], &[], &REPLY[3..7], &[], &[], &REPLY[7..]],
-        dials: &[],
-        reads: &[],
-        writes: &[],
-    };
     let words = ["probe", "x:2049"];
-    let ended = run_on(&rt, rt.alloc(), &words, &outside, &mut sink)?;
-    assert_eq!(rt; ended.status, 0);
-    assert_eq!(rt; ended.fault, None);
-    assert_eq!(rt; sink.bytes(), LINE);
-    assert!(rt; ended.clock.gave(5) && !ended.clock.gave(6));
-    let talk = ended.probed.ok_or("there was a connection")?;
-    assert_eq!(rt; talk.mouth.said(), CALL);
+    // In one fragment, and in two.
+    let rows: [[&[u8]; 6]; 2] = [
+        [&REPLY[..3], &[], &REPLY[3..7], &[], &[], &REPLY[7..]],
+        [
+            &[0, 0, 0],
+            &[3],
+            &REPLY[4..7],
+            &[],
+            &[0x80, 0, 0, 0x59],
+            &REPLY[7..],
+        ],
+    ];
+    for pieces in rows {
+        let mut sink = SureSink::new(rt.alloc());
+        let outside = Outside {
+            pieces: &pieces,
+            dials: &[],
+            reads: &[],
+            writes: &[],
+        };
+        let ended = run_on(&rt, rt.alloc(), &words, &outside, &mut sink)?;
+        assert_eq!(rt; ended.status, 0);
+        assert_eq!(rt; ended.fault, None);
+        assert_eq!(rt; sink.bytes(), LINE);
+        assert!(rt; ended.clock.gave(5) && !ended.clock.gave(6));
+        let talk = ended.probed.ok_or("there was a connection")?;
+        assert_eq!(rt; talk.mouth.outflow().inner().bytes(), CALL);
+    }
     Ok(())
 }
 

@@ -1,10 +1,10 @@
-use Rattle.std.proofs.Common.{◌≡◌, ◌-◌, ◌+◌, ◌*◌, ◌^◌, None, length}
-use Rattle.n41_link.specs.Ends.{ear_log, ear_place, ear_fault, ear_still}
+use Rattle.std.proofs.Common.{◌≡◌, ◌-◌, ◌+◌, ◌*◌, ◌^◌, [], None, length}
+use Rattle.n41_link.specs.Ends.{ear_log, ear_given, ear_fault, ear_still}
 use Rattle.n41_run.proofs.probing.first_record.Given as goal
 
 abbrev pub invariant-loop-ear : goal.invariant-loop-ear
 invariant-loop-ear g l = record {
-  place : ear_place l.ear ≡ 0;
+  given : ear_given l.ear ≡ [];
   fault : ear_fault l.ear ≡ None;
 }
 
