@@ -1,11 +1,12 @@
 -- A format that reads the same bytes as another one does, and sees another value in them.
-use Rattle.std.proofs.Common.{◌≡◌, ℕ, zero, suc, Bool, true, false, cond, List, [], ◌∷◌, ◌++◌, length, map, Option, Some, None, Result, Ok, Err, refl, sym, ap, subst, ◌∙◌}
+use Rattle.std.specs.Int.{w32}
+use Rattle.std.proofs.Common.{◌≡◌, ◌<◌, ◌^◌, ℕ, zero, suc, Bool, true, false, cond, List, [], ◌∷◌, ◌++◌, length, map, Option, Some, None, Result, Ok, Err, refl, sym, ap, subst, ◌∙◌}
 use Rattle.std.specs.List.{flat_map, AllByRecursion}
 use Rattle.std.proofs.lemmas.List.Concat.{flat_map-cons}
 use Rattle.n41_xdr.specs.declared.fault.XdrFault.{XdrFault}
 use Rattle.n41_xdr.specs.Spelling as spelling
-use Rattle.n41_xdr.specs.Reading.{◌>>=◌, boolean_at}
-use Rattle.n41_xdr.specs.Format.{Format, ◌&◌, mapped, made, fault_as, chain, chain_at, chain_next}
+use Rattle.n41_xdr.specs.Reading.{◌>>=◌, number_at, boolean_at}
+use Rattle.n41_xdr.specs.Format.{Format, ◌&◌, mapped, made, fault_as, many_at, list, chain, chain_at, chain_next}
 
 -- q reads what p reads, seen by to, and spells what p spells of a value that from gives
 pub record IsSeen {E A B : Type 0} (to : A → B) (from : B → A) (p : Format E A) (q : Format E B) : Type 0 where
@@ -123,4 +124,35 @@ chain_seen f to from p q h = record {
   reads = λ bytes. chain_at_seen f to from p q h (suc (length bytes)) bytes;
   spells = λ xs. ap (λ (t : List ℕ). t ++ spelling.boolean false) (items_spell to from p q h xs);
   fits = items_fit to from p q h;
+}
+
+-- ---- arrays
+
+many_next_seen : {E A B : Type 0} (to : A → B) (others : List ℕ → Result (List A × List ℕ) E) (seen_others : List ℕ → Result (List B × List ℕ) E) → ((bytes : List ℕ) → seen_others bytes ≡ seen (map to) (others bytes)) → (read : Result (A × List ℕ) E)
+    → (seen to read >>= λ x. more_with x.0 (seen_others x.1)) ≡ seen (map to) (read >>= λ x. more_with x.0 (others x.1))
+many_next_seen to others seen_others same (Ok x) = ap (more_with (to x.0)) (same x.1) ∙ more_seen to x.0 (others x.1)
+many_next_seen to others seen_others same (Err e) = refl
+
+many_at_seen : {E A B : Type 0} (to : A → B) (from : B → A) (p : Format E A) (q : Format E B) → IsSeen to from p q → (n : ℕ) (bytes : List ℕ) → many_at q n bytes ≡ seen (map to) (many_at p n bytes)
+many_at_seen to from p q h zero bytes = refl
+many_at_seen to from p q h (suc n) bytes =
+    ap (λ r. r >>= λ x. more_with x.0 (many_at q n x.1)) (h.reads bytes) ∙ many_next_seen to (many_at p n) (many_at q n) (many_at_seen to from p q h n) (p.read bytes)
+
+counted_seen : {E A B : Type 0} (to : A → B) (from : B → A) (p : Format E A) (q : Format E B) → IsSeen to from p q → (read : Result (ℕ × List ℕ) E) → (read >>= λ n. many_at q n.0 n.1) ≡ seen (map to) (read >>= λ n. many_at p n.0 n.1)
+counted_seen to from p q h (Ok n) = many_at_seen to from p q h n.0 n.1
+counted_seen to from p q h (Err e) = refl
+
+elements_spell : {E A B : Type 0} (to : A → B) (from : B → A) (p : Format E A) (q : Format E B) → IsSeen to from p q → (xs : List B) → flat_map q.spell xs ≡ flat_map p.spell (map from xs)
+elements_spell to from p q h [] = refl
+elements_spell to from p q h (x ∷ xs) = ap (λ (t : List ℕ). t ++ flat_map q.spell xs) (h.spells x) ∙ ap (λ (t : List ℕ). p.spell (from x) ++ t) (elements_spell to from p q h xs)
+
+map_length : {A B : Type 0} (f : A → B) (xs : List A) → length (map f xs) ≡ length xs
+map_length f [] = refl
+map_length f (x ∷ xs) = ap suc (map_length f xs)
+
+pub list_seen : {E A B : Type 0} (f : XdrFault → E) (to : A → B) (from : B → A) (p : Format E A) (q : Format E B) → IsSeen to from p q → IsSeen (map to) (map from) (list f p) (list f q)
+list_seen f to from p q h = record {
+  reads = λ bytes. counted_seen to from p q h (fault_as f (number_at w32 bytes));
+  spells = λ xs. ap (λ (t : List ℕ). spelling.word (length xs) ++ t) (elements_spell to from p q h xs) ∙ ap (λ (n : ℕ). spelling.word n ++ flat_map p.spell (map from xs)) (sym (map_length from xs));
+  fits = λ xs fits. (subst (λ (n : ℕ). n < 2 ^ 32) (map_length from xs) fits.0, items_fit to from p q h xs fits.1);
 }

@@ -138,7 +138,7 @@ pub fn read_res(alloc: Global, r: &mut Reader) -> Result<Res, OpFault>
     }
 }
 
-/// Writes the result of an operation (RFC 8881, nfs_resop4).
+/// Writes the result of an operation (RFC 8881, nfs_resop4). Where memory runs out, a part of it may be written.
 #[tactic(auto, unfolding(crate::specs::Results::told_res))]
 pub fn write_res(w: &mut Writer, x: &Res) -> Result<(), NoMemory>
     requires { told_res.Fits (written_res x.now) }
