@@ -1,9 +1,8 @@
 -- The results from a place on, by what stands there.
-use Rattle.std.proofs.Common.{◌≡◌, ℕ, zero, suc, ◌+◌, ◌==◌, List, [], ◌∷◌, drop, slice_get, Bool, true, false, not, Option, Some, None, refl, sym, ap, ◌∙◌, add-one}
+use Rattle.std.proofs.Common.{◌≡◌, ℕ, suc, ◌+◌, ◌==◌, List, ◌∷◌, drop, slice_get, true, false, Option, Some, None, refl, sym, ap, ◌∙◌, add-one}
 use Rattle.n41_types.specs.declared.operations.Operation.{Operation}
 use Rattle.n41_types.specs.declared.plans.Plan.{Plan}
 use Rattle.n41_results.specs.declared.results.Res.{Res}
-use Rattle.n41_results.specs.declared.shapes.Shape.{Shape}
 use Rattle.n41_results.specs.declared.shapes.Shape.TheVariants as shape
 use Rattle.n41_results.specs.Results.{status_of}
 use Rattle.n41_results.specs.Shapes.{shape_from, unasked_in, misfit, nothing_after}

@@ -1,4 +1,3 @@
-use Rattle.std.proofs.Common.{arith, ◌≡◌, refl, sym}
 use Rattle.n41_fits.proofs.asked.planned.Goals as goal
 
 pub returns-in-CreateFile : goal.returns-in-CreateFile
