@@ -99,9 +99,15 @@ told_of (Denied n) = []
 told_of (Rejected n) = []
 told_of (Results s list) = map written_res list
 
--- the reply has a spelling
+-- what is told of the results can be written, and the status is that of the last
+abbrev pub WrittenFits : ReplyBody → Type 0
+WrittenFits (Denied n) = Unit {0}
+WrittenFits (Rejected n) = Unit {0}
+WrittenFits (Results s list) = (s.0 < 2 ^ 32) × (length list < 2 ^ 32) × AllByRecursion told_res.Fits (map written_res list) × (last_status s.0 list ≡ s.0)
+
+-- the reply can be written
 abbrev pub IsSpellable : Reply → Type 0
-IsSpellable r = (r.xid < 2 ^ 32) × IsBody (head_body r.body) × BodyFits r.body (told_of r.body)
+IsSpellable r = (r.xid < 2 ^ 32) × IsBody (head_body r.body) × WrittenFits r.body
 
 -- what is written: the verifier AUTH_NONE and an empty tag
 abbrev pub written : Reply → List ℕ
