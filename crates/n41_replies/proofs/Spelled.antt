@@ -1,5 +1,5 @@
 -- Replies are read just where they are spelled.
-use Rattle.std.proofs.Common.{◌≡◌, ℕ, zero, suc, ◌<◌, ◌≤◌, ◌^◌, cond, eqb, true, List, [], ◌∷◌, ◌++◌, length, map, slice_get, Option, Some, None, Result, Ok, Err, refl, sym, ap, subst, ◌∙◌, append_assoc, arith, inl, inr}
+use Rattle.std.proofs.Common.{◌≡◌, ℕ, zero, suc, ◌<◌, ◌≤◌, ◌^◌, cond, eqb, true, List, [], ◌∷◌, ◌++◌, length, map, slice_get, Some, Result, Ok, Err, refl, sym, ap, subst, ◌∙◌, append_assoc, arith, inl, inr}
 use Rattle.std.specs.List.{flat_map, AllByRecursion}
 use Rattle.std.specs.Int.{w32}
 use Rattle.std.specs.Prelude.{IfOk}
@@ -141,6 +141,12 @@ spoken_by a s = (a, s)
 pair_is : (a b : ℕ) (s u : Spoken) → a ≡ b → s ≡ u → spoken_by a s ≡ spoken_by b u
 pair_is a b s u p q = cc
 
+-- a head and a body, behind which nothing is left
+in_parts : (bytes : List ℕ) (v w : ℕ × Spoken) (behind text rest : List ℕ) → bytes ≡ head.spell v ++ behind → v ≡ w → behind ≡ text ++ rest → rest ≡ [] → bytes ≡ head.spell w ++ text
+in_parts bytes v w behind text rest parts is body_parts none =
+    parts ∙ ap (λ (s : ℕ × Spoken). head.spell s ++ behind) is
+    ∙ ap (λ (t : List ℕ). head.spell w ++ t) (body_parts ∙ ap (λ (t : List ℕ). text ++ t) none ∙ append-nil text)
+
 reply_takes : (bytes : List ℕ) (r : Reply) → IsBytes bytes → reply_at bytes ≡ Ok r → Spells r bytes
 unfolding reply_at
 reply_takes bytes r fits e =
@@ -156,9 +162,6 @@ reply_takes bytes r fits e =
           let r-is : b.0.0 ≡ r = cc in
           let nothing : b.0.1 ≡ [] = nil_from_length b.0.1 (eqb-true _ _ g.0) in
           let spoken-is : spoken_by h.0.0.0 h.0.0.1 ≡ spoken_by b.0.0.xid (reply t.0) = pair_is h.0.0.0 b.0.0.xid h.0.0.1 (reply t.0) (sym t.4) t.1 in
-          let whole : bytes ≡ head.spell (b.0.0.xid, reply t.0) ++ body_text b.0.0.body t.2.tag t.2.told =
-          th.0.parts ∙ ap (λ (v : ℕ × Spoken). head.spell v ++ h.0.1) spoken-is
-          ∙ ap (λ (w : List ℕ). head.spell (b.0.0.xid, reply t.0) ++ w) (t.2.takes.parts ∙ ap (λ (w : List ℕ). body_text b.0.0.body t.2.tag t.2.told ++ w) nothing ∙ append-nil (body_text b.0.0.body t.2.tag t.2.told)) in
           subst (λ (v : Reply). Spells v bytes) r-is (record {
             verdict = t.0;
             tag = t.2.tag;
@@ -167,7 +170,7 @@ reply_takes bytes r fits e =
             head_fits = subst (λ (v : ℕ × Spoken). head.Fits v) spoken-is th.1;
             tag_fits = t.2.tag_fits;
             body_fits = t.2.body_fits;
-            whole = whole;
+            whole = in_parts bytes (spoken_by h.0.0.0 h.0.0.1) (spoken_by b.0.0.xid (reply t.0)) h.0.1 (body_text b.0.0.body t.2.tag t.2.told) b.0.1 th.0.parts spoken-is t.2.takes.parts nothing;
           })
       | inr g ↦ absurd cc
     ]

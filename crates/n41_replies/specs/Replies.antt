@@ -5,7 +5,6 @@ use Rattle.std.specs.Int.{w32}
 use Rattle.n41_xdr.specs.Reading.{◌>>=◌, number_at, opaque_at}
 use Rattle.n41_xdr.specs.Spelling as spelling
 use Rattle.n41_xdr.specs.Format.{fault_as, made}
-use Rattle.n41_types.specs.declared.statuses.Status.{Status}
 use Rattle.n41_results.specs.declared.replies.Reply.{Reply}
 use Rattle.n41_results.specs.declared.replies.ReplyBody.{ReplyBody}
 use Rattle.n41_results.specs.declared.replies.ReplyBody.TheVariants.{Denied, Rejected, Results}

@@ -10,3 +10,6 @@ pub use fault::MsgFault;
 pub use laws::{no_reply_begins_another, replies_have_one_value, what_is_written_is_read};
 pub use reading::read_reply;
 pub use writing::spell_reply;
+
+#[cfg(test)]
+mod tests;

@@ -105,8 +105,8 @@ fn read_whole(alloc: Global, bytes: &[u8]) -> Result<Reply, MsgFault>
     }
 }
 
-/// Reads the reply to a COMPOUND (RFC 5531, reply_body; RFC 8881, COMPOUND4res). The verifier, the tag and the versions and the number
-/// behind a refusal are not kept, nor are attributes that are not known. A count takes no memory before the results are there.
+/// Reads the reply to a COMPOUND (RFC 5531, reply_body; RFC 8881, COMPOUND4res). The verifier, the tag, and what stands behind a refusal
+/// are not kept. A count of results takes no memory before they are there.
 pub fn read_reply(alloc: Global, bytes: &[u8]) -> Result<Reply, MsgFault>
     // What is read is spelled so.
     ensures found { IfOk result (λ r. Spells r bytes.now) }
