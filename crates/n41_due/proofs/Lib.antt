@@ -1,0 +1,5 @@
+pub mod Dues
+pub mod Outs
+pub mod First
+pub mod Ready
+pub mod OneWant
