@@ -3,3 +3,5 @@ pub mod Outs
 pub mod First
 pub mod Ready
 pub mod OneWant
+pub mod Placed
+pub mod Old

@@ -1,7 +1,7 @@
 -- The caller, of those whose command can go on, whose command began first.
-use Rattle.std.proofs.Common.{◌≡◌, ℕ, ◌+◌, ◌<◌, ◌≤◌, Bool, true, false, ◌&&◌, List, length, Option, Some, None, if◌then◌else◌, slice_get, refl, sym, ◌∙◌, ap, arith, below_more}
+use Rattle.std.proofs.Common.{◌≡◌, ℕ, zero, suc, ◌+◌, ◌<◌, ◌≤◌, Bool, true, false, ◌&&◌, List, [], ◌∷◌, length, Option, Some, None, if◌then◌else◌, slice_get, refl, sym, ◌∙◌, ap, arith, below_more}
 use Rattle.std.proofs.lemmas.Bool.Decides.{nat_tests}
-use Rattle.std.specs.Prelude.{nat_lt}
+use Rattle.std.specs.Prelude.{nat_lt, IfSome, IfNone}
 use Rattle.n41_view.specs.declared.tables.Seat.{Seat}
 use Rattle.n41_due.specs.Order.{can_begin, began_of, is_sooner}
 
@@ -42,3 +42,21 @@ best_more m ss i s (Some c) e h true true p q =
     let f : began_of (slice_get ss i) ≡ s.began_at = ap began_of e in
     let g = under s.began_at (began_of (slice_get ss c)) q in
     (omega arith, ap (can_begin m) e ∙ p, below_more (Later m ss i) i (λ k l t. let r = h.2 k l t in omega arith) (λ t. omega arith))
+
+within : (m : ℕ) (ss : List Seat) (d : ℕ) → can_begin m (slice_get ss d) ≡ true → d < length ss
+within m [] d e = absurd (cc)
+within m (s ∷ ss) zero e = omega arith
+within m (s ∷ ss) (suc d) e = let h = within m ss d e in omega arith
+
+unless : (b : Bool) → (b ≡ true → ⊥) → b ≡ false
+unless true h = absurd (h refl)
+unless false h = refl
+
+-- once all are looked at, it is the best of all
+pub best_first : (m : ℕ) (ss : List Seat) (n : ℕ) (o : Option ℕ) → length ss ≤ n → Best m ss n o → IfSome o (λ c. (d : ℕ) → can_begin m (slice_get ss d) ≡ true → began_of (slice_get ss c) ≤ began_of (slice_get ss d))
+best_first m ss n None l h = tt
+best_first m ss n (Some c) l h = λ d e. let g = within m ss d e in h.2 d (omega arith) e
+
+pub best_none : (m : ℕ) (ss : List Seat) (n : ℕ) (o : Option ℕ) → length ss ≤ n → Best m ss n o → IfNone o ((d : ℕ) → can_begin m (slice_get ss d) ≡ false)
+best_none m ss n None l h = λ d. unless (can_begin m (slice_get ss d)) (λ e. let g = within m ss d e in clash (can_begin m (slice_get ss d)) e (h d (omega arith)))
+best_none m ss n (Some c) l h = tt

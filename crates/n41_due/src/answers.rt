@@ -6,7 +6,7 @@ ghost use Rattle.n41_model.specs.Due.{is_dead};
 ghost use Rattle.n41_due.specs.Answers.{has_earned, is_unanswered};
 
 use crate::lookup::Lookup;
-use crate::plans::destroy_plan;
+use crate::plans::has_destroy_plan;
 use crate::seats::{first_earned, first_unanswered};
 use crate::slots::any_doubt;
 use n41_model::Phase;
@@ -24,7 +24,7 @@ impl Lookup<'_> {
         match (self.facts.standing, self.bare) {
             (None, _) => true,
             (Some(_), Some(_)) => false,
-            (Some(_), None) => destroy_plan(self.facts.session, self.facts.client).is_none(),
+            (Some(_), None) => !has_destroy_plan(self.facts),
         }
     }
 

@@ -7,7 +7,7 @@ ghost use Rattle.n41_view.specs.Due.{any_waiting, finishing_in, is_open_in, is_t
 ghost use Rattle.n41_due.specs.Order.{began_of, goes_before};
 
 use crate::lookup::Lookup;
-use crate::plans::{destroy_plan, has_phase_plan, own_plan, put_off};
+use crate::plans::{has_destroy_plan, has_phase_plan, put_off};
 use crate::seats::{all_idle, first_ready};
 use crate::slots::{any_owned, any_waiting, first_again, first_free, has_passed};
 use n41_model::{Item, Phase};
@@ -94,9 +94,7 @@ impl Lookup<'_> {
     fn is_own_due(&self) -> bool
         ensures { (u : SetupValue) → is_some (due_item u self.now Item.Own) ≡ result }
     {
-        self.may_own()
-            && own_plan(self.facts.phase, self.facts.completed).is_some()
-            && self.has_room()
+        self.may_own() && matches!(self.facts.phase, Phase::Completing) && self.has_room()
     }
 
     fn due_begin(&self) -> Option<u32>
@@ -119,10 +117,13 @@ impl Lookup<'_> {
     fn is_destroy_due(&self) -> bool
         ensures { (u : SetupValue) → is_some (due_item u self.now Item.Destroy) ≡ result }
     {
-        self.is_finishing()
-            && self.bare.is_none()
-            && destroy_plan(self.facts.session, self.facts.client).is_some()
-            && self.next_xid().is_some()
+        if !self.is_finishing() || self.bare.is_some() {
+            return false;
+        }
+        if !has_destroy_plan(self.facts) {
+            return false;
+        }
+        self.next_xid().is_some()
     }
 
     fn first_item(&self) -> Option<Item>

@@ -104,3 +104,13 @@ pub fn destroy_plan(session: Option<SessionMade>, client: Option<KnownClient>) -
         (None, None) => None,
     }
 }
+
+/// Whether there is a session or a client id to give up.
+pub fn has_destroy_plan(facts: &Facts) -> bool
+    ensures { result ≡ is_some (destroy_in facts.now.session facts.now.client) }
+{
+    match facts.session {
+        None => facts.client.is_some(),
+        Some(_) => true,
+    }
+}

@@ -1,7 +1,9 @@
-ghost use Rattle.std.specs.Prelude.{◌≡◌, ◌+◌, ◌&&◌, ℕ, Some, nat_le, true, false, None, IfOk, IfSome, IfNone, IsSome, option_copied, slice_get};
-ghost use Rattle.n41_model.specs.declared.words.Setup.{Setup as SetupValue};
-ghost use Rattle.n41_view.specs.Due.{new_on, new_bare, on_slot, goes_slot, begins_seat, due_item, due_in};
-ghost use Rattle.n41_view.specs.Causes.{awaited_in, is_old_in};
+ghost use Rattle.std.specs.Prelude.{◌≡◌, ◌+◌, ◌&&◌, ℕ, Some, nat_le, true, false, not, None, IfOk, IfSome, IfNone, IsSome, option_copied, slice_get};
+ghost use Rattle.n41_model.specs.Due.{only_if};
+ghost use Rattle.n41_due.specs.Places.{place_on, numbered};
+ghost use Rattle.n41_due.specs.Old.{is_bare_old};
+ghost use Rattle.n41_view.specs.Due.{finishing_in, first_free, new_on, new_bare, goes_slot, begins_seat, due_item, due_in};
+ghost use Rattle.n41_view.specs.Causes.{any_old, awaited_in, is_old_in};
 
 use crate::lookup::Lookup;
 use crate::plans::{destroy_plan, next_plan, own_plan, phase_plan};
@@ -19,6 +21,28 @@ fn copied(request: Option<&Request>) -> Result<Option<Request>, NoMemory>
         None => None,
         Some(request) => Some(request.clone()?),
     })
+}
+
+/// The request with this plan, place and xid, where both are there.
+fn numbered(
+    setup: &Setup,
+    plan: Plan,
+    place: Option<SlotUse>,
+    xid: Option<u32>,
+) -> Option<Request>
+    ensures { result ≡ numbered setup.now plan place xid }
+{
+    match (place, xid) {
+        (Some(place), Some(xid)) => Some(Request {
+            xid,
+            uid: setup.uid,
+            gid: setup.gid,
+            minor: 1,
+            slot: Some(place),
+            plan,
+        }),
+        _ => None,
+    }
 }
 
 impl Lookup<'_> {
@@ -39,31 +63,33 @@ impl Lookup<'_> {
         }
     }
 
-    /// A new request on the lowest slot that is free.
-    fn new_on(&self, setup: &Setup, plan: Plan) -> Option<Request>
-        ensures { result ≡ new_on setup.now self.now plan }
+    /// The place of a new request on the lowest slot that is free. `cache` tells whether its reply is to be kept for a retry.
+    fn free_place(&self, cache: bool) -> Option<SlotUse>
+        ensures { result ≡ place_on self.now.slots cache self.now.facts.session (first_free self.now.facts.target self.now.slots) }
     {
-        let made = self.facts.session?;
-        let slot = first_free(self.slots, self.facts.target)?;
-        let xid = self.next_xid()?;
-        Some(Request {
-            xid,
-            uid: setup.uid,
-            gid: setup.gid,
-            minor: 1,
-            slot: Some(SlotUse {
+        match (self.facts.session, first_free(self.slots, self.facts.target)) {
+            (Some(made), Some(slot)) => Some(SlotUse {
                 sid: made.sid,
                 slot: slot.number,
                 turn: slot.used + 1,
                 highest: highest(self.slots, slot.number),
-                cache: plan.is_cached(),
+                cache,
             }),
-            plan,
-        })
+            _ => None,
+        }
+    }
+
+    /// A new request on the lowest slot that is free.
+    #[tactic(auto, using(crate::proofs::Placed::placed))]
+    fn new_on(&self, setup: &Setup, plan: Plan) -> Option<Request>
+        ensures { result ≡ new_on setup.now self.now plan }
+    {
+        let place = self.free_place(plan.is_cached());
+        numbered(setup, plan, place, self.next_xid())
     }
 
     fn again_request(&self) -> Result<Option<Request>, NoMemory>
-        ensures { IfOk result (λ o. (u : SetupValue) → o ≡ due_item u self.now Item.Again) }
+        ensures { IfOk result (λ o. o ≡ only_if (not self.now.facts.bare_waits) self.now.bare) }
     {
         if self.facts.bare_waits {
             return Ok(None);
@@ -72,7 +98,7 @@ impl Lookup<'_> {
     }
 
     fn retry_request(&self, slot: u32) -> Result<Option<Request>, NoMemory>
-        ensures { IfOk result (λ o. (u : SetupValue) → o ≡ due_item u self.now (Item.Retry slot)) }
+        ensures { IfOk result (λ o. o ≡ only_if (not (finishing_in self.now) && self.now.facts.bound) (goes_slot self.now.facts.moment (slice_get self.now.slots slot))) }
     {
         if self.is_finishing() || !self.facts.bound {
             return Ok(None);
@@ -197,14 +223,33 @@ impl Lookup<'_> {
         any_old(self.slots, self.facts.moment, xid)
     }
 
+    /// The xid of the request without a slot, where it is old.
+    fn old_bare(&self) -> Option<u32>
+        ensures some { IfSome result (λ x. is_bare_old self.now x ≡ true) }
+        ensures none { IfNone result ((x : ℕ) → is_bare_old self.now x ≡ false) }
+    {
+        match self.bare {
+            Some(bare) if self.is_bare_old() => Some(bare.xid),
+            _ => None,
+        }
+    }
+
+    /// The xid of a request on a slot that is old.
+    fn old_held(&self) -> Option<u32>
+        ensures some { IfSome result (λ x. any_old self.now.facts.moment x self.now.slots ≡ true) }
+        ensures none { IfNone result ((x : ℕ) → any_old self.now.facts.moment x self.now.slots ≡ false) }
+    {
+        first_old(self.slots, self.facts.moment)
+    }
+
     /// The xid of a request that is old. None exactly where none is.
     pub fn old_request(&self) -> Option<u32>
         ensures some { IfSome result (λ x. is_old_in self.now x ≡ true) }
         ensures none { IfNone result ((x : ℕ) → is_old_in self.now x ≡ false) }
     {
-        if let Some(bare) = self.bare && self.is_bare_old() {
-            return Some(bare.xid);
+        match self.old_bare() {
+            Some(xid) => Some(xid),
+            None => self.old_held(),
         }
-        first_old(self.slots, self.facts.moment)
     }
 }
