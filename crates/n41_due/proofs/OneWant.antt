@@ -1,14 +1,13 @@
 -- No two things are wanted at once.
 use Rattle.std.proofs.Common.{◌≡◌, ◌⊎◌, ℕ, Bool, true, false, inl, inr, Option, Some, None, refl}
-use Rattle.std.specs.Prelude.{is_some, IsSome}
+use Rattle.std.specs.Prelude.{IsSome}
 use Rattle.n41_types.specs.declared.plans.Request.{Request}
-use Rattle.n41_model.specs.declared.words.Item.{Item}
 use Rattle.n41_model.specs.declared.words.Setup.{Setup}
 use Rattle.n41_view.specs.View.{View}
 use Rattle.n41_view.specs.Due.{due_in, has_ended_in}
 use Rattle.n41_due.specs.declared.wants.Want.{Want}
 use Rattle.n41_due.specs.declared.wants.Want.TheVariants.{Dial, Send, Read, Pause, Nothing}
-use Rattle.n41_due.specs.Wants.{WantIn, RunsOn, NothingDueIn, IsRead, IsPause, awaits_in, wait_in}
+use Rattle.n41_due.specs.Wants.{WantIn, RunsOn, awaits_in, wait_in}
 
 clash : (b : Bool) → b ≡ true → b ≡ false → ⊥
 clash b p q = cc

@@ -1,13 +1,12 @@
 -- The requests that are out, by their parts.
-use Rattle.std.proofs.Common.{◌≡◌, ℕ, suc, ◌+◌, ◌-◌, ◌<◌, Bool, true, false, ◌||◌, List, [], ◌∷◌, ◌++◌, length, Option, Some, None, refl, ◌∙◌, ap, arith}
+use Rattle.std.proofs.Common.{◌≡◌, ℕ, suc, ◌+◌, ◌-◌, ◌<◌, true, ◌||◌, List, [], ◌∷◌, ◌++◌, length, Option, Some, None, refl, ◌∙◌, ap, arith}
 use Rattle.std.proofs.lemmas.Grind.{common_steps}
 use Rattle.n41_types.specs.declared.plans.Request.{Request}
-use Rattle.n41_model.specs.Requests.{knows, has_xid}
+use Rattle.n41_model.specs.Requests.{knows}
 use Rattle.n41_model.specs.Sessions.{xid_after, unused_xid}
 use Rattle.n41_view.specs.View.{View}
 use Rattle.n41_view.specs.Step.{has, request_in, holds, alone, held_requests, requests}
 use Rattle.n41_view.specs.Due.{any_held}
-use Rattle.n41_view.specs.declared.tables.Held.{Held}
 use Rattle.n41_view.specs.declared.tables.Slot.{Slot}
 
 pub knows_alone : (o : Option Request) (rs : List Request) (x : ℕ) → knows (alone o ++ rs) x ≡ (has x o || knows rs x)

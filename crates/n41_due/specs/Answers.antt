@@ -1,5 +1,5 @@
 -- Which commands may be answered, from the tables alone.
-use Rattle.std.specs.Prelude.{ℕ, Bool, true, false, ◌&&◌, Option, Some, None, is_some}
+use Rattle.std.specs.Prelude.{Bool, ◌&&◌, is_some}
 use Rattle.n41_view.specs.declared.tables.Seat.{Seat}
 
 -- a command is unanswered
