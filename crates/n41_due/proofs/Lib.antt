@@ -1,0 +1,7 @@
+pub mod Dues
+pub mod Outs
+pub mod First
+pub mod Ready
+pub mod OneWant
+pub mod Placed
+pub mod Old

@@ -1,0 +1,42 @@
+-- Which of the requests that are due goes first (own).
+use Rattle.std.specs.Prelude.{ℕ, ◌==◌, Bool, true, false, ◌&&◌, ◌||◌, List, Option, Some, None, nat_lt, is_some, slice_get}
+use Rattle.n41_model.specs.declared.words.Item.{Item}
+use Rattle.n41_model.specs.declared.words.Item.TheVariants as item
+use Rattle.n41_model.specs.Calls.{next_plan}
+use Rattle.n41_view.specs.View.{View}
+use Rattle.n41_view.specs.Due.{is_ready_seat}
+use Rattle.n41_view.specs.declared.tables.Seat.{Seat}
+
+-- the command can go on, and has a next plan
+abbrev pub can_begin : ℕ → Option Seat → Bool
+can_begin m None = false
+can_begin m (Some s) = is_ready_seat m s && is_some (next_plan s.command)
+
+-- the place where the command began
+abbrev pub began_of : Option Seat → ℕ
+began_of None = 0
+began_of (Some s) = s.began_at
+
+-- the command began before that of the best caller so far
+abbrev pub is_sooner : List Seat → Seat → Option ℕ → Bool
+is_sooner ss s None = true
+is_sooner ss s (Some c) = nat_lt s.began_at (began_of (slice_get ss c))
+
+-- the kinds in their order
+abbrev pub rank : Item → ℕ
+rank item.Again = 0
+rank (item.Retry n) = 1
+rank item.Step = 2
+rank item.Own = 3
+rank (item.Fresh c) = 4
+rank item.Destroy = 5
+
+-- among those of one kind the lowest slot goes first, and the command that began first
+abbrev pub order_in : View → Item → ℕ
+order_in w (item.Retry n) = n
+order_in w (item.Fresh c) = began_of (slice_get w.seats c)
+order_in w i = 0
+
+-- the first of these goes before the second
+abbrev pub goes_before : View → Item → Item → Bool
+goes_before w i j = nat_lt (rank i) (rank j) || ((rank i == rank j) && nat_lt (order_in w i) (order_in w j))

@@ -1,0 +1,96 @@
+ghost use Rattle.std.specs.Prelude.{◌≡◌, ◌<◌, ◌≤◌, None, position, IfSome, IfNone};
+ghost use Rattle.n41_view.specs.Due.{has_ended_in, is_over_in};
+ghost use Rattle.n41_view.specs.Causes.{CauseIn, any_doubt};
+ghost use Rattle.n41_model.specs.Answers.{round_limit};
+ghost use Rattle.n41_model.specs.Due.{is_dead};
+ghost use Rattle.n41_due.specs.Answers.{has_earned, is_unanswered};
+
+use crate::lookup::Lookup;
+use crate::plans::has_destroy_plan;
+use crate::seats::{first_earned, first_unanswered};
+use crate::slots::any_doubt;
+use n41_model::Phase;
+use n41_types::Answer;
+use n41_view::Seat;
+
+/// So many rounds in a row without a reply end a run.
+const ROUND_LIMIT: u64 = 16;
+
+impl Lookup<'_> {
+    /// Whether nothing is left to be put once all is answered.
+    fn is_over(&self) -> bool
+        ensures { result ≡ is_over_in self.now }
+    {
+        match (self.facts.standing, self.bare) {
+            (None, _) => true,
+            (Some(_), Some(_)) => false,
+            (Some(_), None) => !has_destroy_plan(self.facts),
+        }
+    }
+
+    /// Whether the run has ended: a reply broke the rules, or sixteen rounds in a row had no reply, or no more commands come, all are
+    /// answered, and nothing is left to be given up.
+    pub fn has_ended(&self) -> bool
+        ensures { result ≡ has_ended_in self.now }
+    {
+        if matches!(self.facts.phase, Phase::Dead) || self.facts.rounds >= ROUND_LIMIT {
+            return true;
+        }
+        self.is_finishing() && self.is_over()
+    }
+
+    /// The first caller whose unanswered command has earned its answer. None exactly where there is none.
+    pub fn earned(&self) -> Option<u32>
+        ensures { result ≡ position has_earned self.now.seats }
+    {
+        match first_earned(self.seats) {
+            None => None,
+            Some(caller) => Some(caller as u32),
+        }
+    }
+
+    /// The first caller whose command is unanswered. None exactly where there is none.
+    pub fn unanswered(&self) -> Option<u32>
+        ensures { result ≡ position is_unanswered self.now.seats }
+    {
+        match first_unanswered(self.seats) {
+            None => None,
+            Some(caller) => Some(caller as u32),
+        }
+    }
+
+    /// Whether a changing request of the caller is in doubt: a connection broke while it was unanswered.
+    pub fn is_doubtful(&self, caller: u32) -> bool
+        ensures { result ≡ any_doubt caller self.now.slots }
+    {
+        any_doubt(self.slots, caller)
+    }
+
+    /// The answer to a command that is unanswered once sixteen rounds in a row had no reply: unknown where a changing request of it is
+    /// in doubt, otherwise that the server could not be reached.
+    fn answer_unreached(&self, seat: &Seat) -> Answer
+        requires { round_limit ≤ self.now.facts.rounds }
+        ensures { CauseIn self.now seat.now result }
+    {
+        if any_doubt(self.slots, seat.caller) {
+            Answer::Unknown
+        } else {
+            Answer::Unreachable(ROUND_LIMIT)
+        }
+    }
+
+    /// The answer to a command where the run has ended without a reply to it: that a reply broke the rules, or that the last sixteen
+    /// rounds had no reply. None exactly where neither is so.
+    pub fn answer_at_end(&self, seat: &Seat) -> Option<Answer>
+        ensures some { IfSome result (λ a. CauseIn self.now seat.now a) }
+        ensures none { IfNone result ((self.now.facts.breach_at ≡ None) × (self.now.facts.rounds < round_limit)) }
+    {
+        if let Some(place) = self.facts.breach_at {
+            return Some(Answer::Breach(place));
+        }
+        if self.facts.rounds < ROUND_LIMIT {
+            return None;
+        }
+        Some(self.answer_unreached(seat))
+    }
+}

@@ -1,0 +1,116 @@
+ghost use Rattle.std.specs.Prelude.{◌≡◌, ◌+◌, ◌<◌, Some, IfOk, is_some};
+ghost use Rattle.n41_model.specs.declared.words.Setup.{Setup as SetupValue};
+ghost use Rattle.n41_model.specs.Calls.{next_plan};
+ghost use Rattle.n41_model.specs.Due.{bind_in, create_in, own_plan_in, destroy_in, bare_request};
+ghost use Rattle.n41_view.specs.Due.{put_off_in, plan_for};
+
+use n41_model::{KnownClient, Phase, Setup};
+use n41_results::SessionMade;
+use n41_types::{Command, NoMemory, Place, Plan};
+use n41_view::{Facts, PutOffs};
+
+/// The moment at which the last request of a phase was put off, where none was put since.
+pub fn put_off(put_offs: &PutOffs, phase: Phase) -> Option<u64>
+    ensures { result ≡ put_off_in put_offs.now phase }
+{
+    match phase {
+        Phase::Binding => put_offs.binding,
+        Phase::Session => put_offs.session,
+        Phase::ClientId => put_offs.client_id,
+        Phase::Completing => put_offs.completing,
+        _ => None,
+    }
+}
+
+/// The next plan of a command.
+pub fn next_plan(command: &Option<Command>) -> Option<Plan>
+    ensures { result ≡ next_plan command.now }
+{
+    match command {
+        Some(Command::Stat { path }) => match path.as_slice() {
+            [] => Some(Plan::Stat { at: Place::Root }),
+            _ => None,
+        },
+        _ => None,
+    }
+}
+
+fn bind_in(session: Option<SessionMade>) -> Option<Plan>
+    ensures { result ≡ bind_in session }
+{
+    match session {
+        None => None,
+        Some(made) => Some(Plan::Bind { sid: made.sid }),
+    }
+}
+
+fn create_in(client: Option<KnownClient>) -> Option<Plan>
+    ensures { result ≡ create_in client }
+{
+    match client {
+        None => None,
+        Some(known) => Some(Plan::CreateSession {
+            client: known.id,
+            seq: known.sequence,
+        }),
+    }
+}
+
+/// What the present phase asks for without a slot.
+pub fn phase_plan(setup: &Setup, facts: &Facts) -> Result<Option<Plan>, NoMemory>
+    ensures { IfOk result (λ o. o ≡ plan_for setup.now facts.now facts.now.phase) }
+{
+    Ok(match facts.phase {
+        Phase::Binding => bind_in(facts.session),
+        Phase::Session => create_in(facts.client),
+        Phase::ClientId => Some(Plan::ExchangeId {
+            verifier: setup.verifier,
+            owner: setup.owner.clone()?,
+        }),
+        _ => None,
+    })
+}
+
+/// Whether the present phase asks for a request without a slot.
+pub fn has_phase_plan(facts: &Facts) -> bool
+    ensures { (u : SetupValue) → is_some (plan_for u facts.now facts.now.phase) ≡ result }
+{
+    match facts.phase {
+        Phase::Binding => facts.session.is_some(),
+        Phase::Session => facts.client.is_some(),
+        Phase::ClientId => true,
+        _ => false,
+    }
+}
+
+/// What a phase asks for with a slot: RECLAIM_COMPLETE once for a client id, then the lease time.
+pub fn own_plan(phase: Phase, completed: bool) -> Option<Plan>
+    ensures { result ≡ own_plan_in phase completed }
+{
+    match phase {
+        Phase::Completing if completed => Some(Plan::LeaseTime),
+        Phase::Completing => Some(Plan::Complete),
+        _ => None,
+    }
+}
+
+/// What ends the session, and then the client id.
+pub fn destroy_plan(session: Option<SessionMade>, client: Option<KnownClient>) -> Option<Plan>
+    ensures { result ≡ destroy_in session client }
+{
+    match (session, client) {
+        (Some(made), _) => Some(Plan::DestroySession { sid: made.sid }),
+        (None, Some(known)) => Some(Plan::DestroyClient { client: known.id }),
+        (None, None) => None,
+    }
+}
+
+/// Whether there is a session or a client id to give up.
+pub fn has_destroy_plan(facts: &Facts) -> bool
+    ensures { result ≡ is_some (destroy_in facts.now.session facts.now.client) }
+{
+    match facts.session {
+        None => facts.client.is_some(),
+        Some(_) => true,
+    }
+}
