@@ -1,10 +1,12 @@
 -- Which of the requests that are due goes first (own).
-use Rattle.std.specs.Prelude.{ℕ, ◌==◌, Bool, true, false, ◌&&◌, ◌||◌, List, Option, Some, None, nat_lt, is_some, slice_get}
+use Rattle.std.specs.Prelude.{◌≡◌, ℕ, ◌==◌, Bool, true, false, ◌&&◌, ◌||◌, List, Option, Some, None, nat_lt, is_some, slice_get}
+use Rattle.n41_types.specs.declared.plans.Request.{Request}
 use Rattle.n41_model.specs.declared.words.Item.{Item}
 use Rattle.n41_model.specs.declared.words.Item.TheVariants as item
+use Rattle.n41_model.specs.declared.words.Setup.{Setup}
 use Rattle.n41_model.specs.Calls.{next_plan}
 use Rattle.n41_view.specs.View.{View}
-use Rattle.n41_view.specs.Due.{is_ready_seat}
+use Rattle.n41_view.specs.Due.{is_ready_seat, due_in}
 use Rattle.n41_view.specs.declared.tables.Seat.{Seat}
 
 -- the command can go on, and has a next plan
@@ -40,3 +42,8 @@ order_in w i = 0
 -- the first of these goes before the second
 abbrev pub goes_before : View → Item → Item → Bool
 goes_before w i j = nat_lt (rank i) (rank j) || ((rank i == rank j) && nat_lt (order_in w i) (order_in w j))
+
+-- this request is due, and nothing that goes before it
+pub record IsNext (u : Setup) (w : View) (r : Request) (i : Item) : Type 0 where
+  pub due : due_in u w i ≡ Some r
+  pub first : (j : Item) → goes_before w j i ≡ true → due_in u w j ≡ None

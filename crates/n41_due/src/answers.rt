@@ -66,21 +66,9 @@ impl Lookup<'_> {
         any_doubt(self.slots, caller)
     }
 
-    /// The answer to a command that is unanswered once sixteen rounds in a row had no reply: unknown where a changing request of it is
-    /// in doubt, otherwise that the server could not be reached.
-    fn answer_unreached(&self, seat: &Seat) -> Answer
-        requires { round_limit ≤ self.now.facts.rounds }
-        ensures { CauseIn self.now seat.now result }
-    {
-        if any_doubt(self.slots, seat.caller) {
-            Answer::Unknown
-        } else {
-            Answer::Unreachable(ROUND_LIMIT)
-        }
-    }
-
-    /// The answer to a command where the run has ended without a reply to it: that a reply broke the rules, or that the last sixteen
-    /// rounds had no reply. None exactly where neither is so.
+    /// The answer to an unanswered command where no reply is waited for any more: that a reply broke the rules; or once sixteen rounds
+    /// in a row had no reply, unknown where a changing request of the command is in doubt, and otherwise that the server could not be
+    /// reached. None exactly where no reply broke the rules and fewer rounds had none.
     pub fn answer_at_end(&self, seat: &Seat) -> Option<Answer>
         ensures some { IfSome result (λ a. CauseIn self.now seat.now a) }
         ensures none { IfNone result ((self.now.facts.breach_at ≡ None) × (self.now.facts.rounds < round_limit)) }
@@ -91,6 +79,10 @@ impl Lookup<'_> {
         if self.facts.rounds < ROUND_LIMIT {
             return None;
         }
-        Some(self.answer_unreached(seat))
+        if any_doubt(self.slots, seat.caller) {
+            Some(Answer::Unknown)
+        } else {
+            Some(Answer::Unreachable(ROUND_LIMIT))
+        }
     }
 }

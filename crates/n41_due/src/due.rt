@@ -102,10 +102,7 @@ impl Lookup<'_> {
         ensures first { IfSome result (λ c. (u : SetupValue) (d : ℕ) → began_of (slice_get self.now.seats d) < began_of (slice_get self.now.seats c) → due_item u self.now (Item.Fresh d) ≡ None) }
         ensures none { IfNone result ((u : SetupValue) (d : ℕ) → due_item u self.now (Item.Fresh d) ≡ None) }
     {
-        if self.is_finishing()
-            || !matches!(self.facts.phase, Phase::Running)
-            || !self.has_room()
-        {
+        if self.is_finishing() || !matches!(self.facts.phase, Phase::Running) || !self.has_room() {
             return None;
         }
         match first_ready(self.seats, self.facts.moment) {

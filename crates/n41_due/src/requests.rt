@@ -1,7 +1,9 @@
 ghost use Rattle.std.specs.Prelude.{◌≡◌, ◌+◌, ◌&&◌, ℕ, Some, nat_le, true, false, not, None, IfOk, IfSome, IfNone, IsSome, option_copied, slice_get};
 ghost use Rattle.n41_model.specs.Due.{only_if};
 ghost use Rattle.n41_due.specs.Places.{place_on, numbered};
+ghost use Rattle.n41_model.specs.declared.words.Item.{Item as ItemValue};
 ghost use Rattle.n41_due.specs.Old.{is_bare_old};
+ghost use Rattle.n41_due.specs.Order.{IsNext};
 ghost use Rattle.n41_view.specs.Due.{finishing_in, first_free, new_on, new_bare, goes_slot, begins_seat, due_item, due_in};
 ghost use Rattle.n41_view.specs.Causes.{any_old, awaited_in, is_old_in};
 
@@ -24,12 +26,7 @@ fn copied(request: Option<&Request>) -> Result<Option<Request>, NoMemory>
 }
 
 /// The request with this plan, place and xid, where both are there.
-fn numbered(
-    setup: &Setup,
-    plan: Plan,
-    place: Option<SlotUse>,
-    xid: Option<u32>,
-) -> Option<Request>
+fn numbered(setup: &Setup, plan: Plan, place: Option<SlotUse>, xid: Option<u32>) -> Option<Request>
     ensures { result ≡ numbered setup.now plan place xid }
 {
     match (place, xid) {
@@ -67,7 +64,10 @@ impl Lookup<'_> {
     fn free_place(&self, cache: bool) -> Option<SlotUse>
         ensures { result ≡ place_on self.now.slots cache self.now.facts.session (first_free self.now.facts.target self.now.slots) }
     {
-        match (self.facts.session, first_free(self.slots, self.facts.target)) {
+        match (
+            self.facts.session,
+            first_free(self.slots, self.facts.target),
+        ) {
             (Some(made), Some(slot)) => Some(SlotUse {
                 sid: made.sid,
                 slot: slot.number,
@@ -192,19 +192,19 @@ impl Lookup<'_> {
         self.item_request(setup, item)
     }
 
-    /// The request with this xid that waits for its reply on the standing connection.
-    pub fn awaited(&self, xid: u32) -> Option<&Request>
-        ensures { option_copied result ≡ awaited_in self.now xid }
+    /// Of the requests that are due on the standing connection the one that goes first, or want of memory. None exactly where none is
+    /// due.
+    pub fn next_request(&self, setup: &Setup) -> Result<Option<Request>, NoMemory>
+        ensures some { IfOk result (λ o. IfSome o (λ r. (i : ItemValue) × IsNext setup.now self.now r i)) }
+        ensures none { IfOk result (λ o. IfNone o ((i : ItemValue) → due_in setup.now self.now i ≡ None)) }
     {
-        if is_named(xid, self.bare) {
-            return if self.facts.bare_waits { self.bare } else { None };
-        }
-        match held_with(self.slots, xid) {
-            Some(held) if matches!(held.sent, Sent::Waits) => Some(&held.request),
-            _ => None,
+        match self.first_due() {
+            None => Ok(None),
+            Some(item) => self.request_due(setup, item),
         }
     }
 
+    /// Whether the request without a slot was put at least 60 seconds ago, and has no reply.
     fn is_bare_old(&self) -> bool
         ensures { result ≡ (self.now.facts.bare_waits && nat_le (self.now.facts.bare_put_at + 60) self.now.facts.moment) }
     {
@@ -250,6 +250,25 @@ impl Lookup<'_> {
         match self.old_bare() {
             Some(xid) => Some(xid),
             None => self.old_held(),
+        }
+    }
+}
+
+impl<'a> Lookup<'a> {
+    /// The request with this xid that waits for its reply on the standing connection.
+    pub fn awaited(&self, xid: u32) -> Option<&'a Request>
+        ensures { option_copied result ≡ awaited_in self.now xid }
+    {
+        if is_named(xid, self.bare) {
+            return if self.facts.bare_waits {
+                self.bare
+            } else {
+                None
+            };
+        }
+        match held_with(self.slots, xid) {
+            Some(held) if matches!(held.sent, Sent::Waits) => Some(&held.request),
+            _ => None,
         }
     }
 }

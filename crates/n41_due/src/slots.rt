@@ -117,7 +117,6 @@ pub fn first_free(slots: &[Slot], target: u32) -> Option<&Slot>
     None
 }
 
-
 /// The highest slot that is out, this one included.
 pub fn highest(slots: &[Slot], this: u32) -> u32
     ensures { result ≡ highest_in slots.now this }
@@ -212,9 +211,7 @@ fn doubts(caller: u32, held: &Option<Held>) -> bool
     match held {
         None => false,
         Some(held) => {
-            held.owner == Some(caller)
-                && held.request.plan.class() == Class::Changing
-                && held.doubt
+            held.owner == Some(caller) && held.request.plan.class() == Class::Changing && held.doubt
         }
     }
 }

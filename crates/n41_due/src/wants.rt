@@ -104,7 +104,11 @@ impl Lookup<'_> {
         ensures { result ≡ wait_in self.now }
     {
         let moment = self.facts.moment;
-        seats_wait(self.seats, moment, slots_wait(self.slots, moment, phase_wait(self.facts)))
+        seats_wait(
+            self.seats,
+            moment,
+            slots_wait(self.slots, moment, phase_wait(self.facts)),
+        )
     }
 
     /// Whether a request waits for its reply on the standing connection.
