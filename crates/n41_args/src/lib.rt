@@ -23,6 +23,3 @@ pub use openings::{CloseArgs, DowngradeArgs, OpenArgs, OpenClaim, OpenHow};
 pub use owners::StateOwner;
 pub use reading::read_arg;
 pub use writing::write_arg;
-
-#[cfg(test)]
-mod tests;
