@@ -1,0 +1,6 @@
+pub mod Equal
+pub mod Slots
+pub mod Rules
+pub mod Turns
+pub mod Items
+pub mod Fits
