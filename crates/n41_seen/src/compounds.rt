@@ -43,7 +43,7 @@ fn is_compound(head: &CallHead) -> bool
     head.prog == 100_003 && head.vers == 4 && head.procedure == 1
 }
 
-/// Whether there is an operation of this number (RFC 8881, nfs_opnum4; of those that are optional not all are there).
+/// Whether an operation has this number: those that `n41_args` reads (RFC 8881, nfs_opnum4).
 #[tactic(auto, unfolding(crate::specs::Calls::is_operation))]
 fn is_operation(number: u32) -> bool
     ensures { result ≡ is_operation number }
