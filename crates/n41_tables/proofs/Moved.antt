@@ -1,6 +1,7 @@
 -- Tables whose parts are those of the step are the step, and ready for the next.
 use Rattle.std.proofs.Common.{◌≡◌, ℕ, suc, ◌+◌, ◌<◌, ◌≤◌, List, [], map, length, Option, None, vec_capacity, refl, sym, ◌∙◌, ap, subst, add-one, arith}
-use Rattle.std.specs.Vec.{Vec, with_items}
+use Rattle.std.specs.declared.vec.Vec.{Vec}
+use Rattle.std.specs.Vec.{with_items}
 use Rattle.std.proofs.lemmas.List.{length-map, with_items_is}
 use Rattle.n41_types.specs.declared.commands.Answer.{Answer}
 use Rattle.n41_types.specs.declared.commands.Command.{Command}
@@ -11,7 +12,7 @@ use Rattle.n41_journal.specs.declared.events.Cause.TheVariants as cause
 use Rattle.n41_journal.specs.declared.events.Event.{Event}
 use Rattle.n41_journal.specs.declared.events.Event.TheVariants.{Began, Put, Took, Dialed, Broke, Answered}
 use Rattle.n41_model.specs.Requests.{session_in}
-use Rattle.n41_view.specs.View.{View}
+use Rattle.n41_view.specs.View.{View, view}
 use Rattle.n41_view.specs.declared.tables.Facts.{Facts}
 use Rattle.n41_view.specs.declared.tables.Seat.{Seat}
 use Rattle.n41_view.specs.declared.tables.Slot.{Slot}
@@ -19,7 +20,7 @@ use Rattle.n41_view.specs.Step.{step, counted, put_facts, took_facts, dialed_fac
 use Rattle.n41_tables.specs.declared.tables.Tables.TheInside.{Inside}
 use Rattle.n41_tables.specs.Sound.{IsSound, IsTried}
 use Rattle.n41_tables.specs.Inside.{inside, IsReady}
-use Rattle.n41_tables.proofs.Soundness.{sound_step, tried_more}
+use Rattle.n41_tables.proofs.Soundness.{sound_new, sound_step, tried_more}
 
 abbrev pub tables_of : Facts → Option Request → List Slot → List Seat → View
 tables_of f b s q = record { facts = f; bare = b; slots = s; seats = q }
@@ -29,6 +30,9 @@ parts f b s q w h i j k = rw (h, i, j, k) refl
 
 pub ready : (t u : Inside) (e : Event) → IsReady t → inside u ≡ step (inside t) e → 64 ≤ vec_capacity u.slots → IsReady u
 ready t u e r h l = let P : View → Type 0 = IsSound in record { sound = subst P (sym h) (sound_step (inside t) e r.sound); room = l }
+
+pub ready_new : (u : Inside) (n : ℕ) → inside u ≡ view n [] → 64 ≤ vec_capacity u.slots → IsReady u
+ready_new u n h l = let P : View → Type 0 = IsSound in record { sound = subst P (sym h) (sound_new n); room = l }
 
 -- a list that was stepped in place
 pub with_map : {X Z : Type 0} (v : Vec X Z) (f : X → X) (xs ws : List X) → xs ≡ v.items → ws ≡ map f xs → (with_items v ws).items ≡ map f v.items
