@@ -1,0 +1,11 @@
+//! The tables of a client's core, and the step by which an event moves them.
+#![tactic(auto)]
+
+mod chosen;
+mod facts;
+mod seats;
+mod slots;
+mod tables;
+
+pub use chosen::new_owner;
+pub use tables::Tables;
