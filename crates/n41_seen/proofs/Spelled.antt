@@ -1,13 +1,14 @@
 -- Calls are read just where they are spelled.
-use Rattle.std.proofs.Common.{◌≡◌, ℕ, zero, suc, ◌+◌, Bool, true, false, eqb, List, [], ◌∷◌, ◌++◌, length, map, Some, None, Result, Ok, Err, refl, sym, ap, subst, ◌∙◌, append_assoc, zero-add, arith, inl, inr}
+use Rattle.std.proofs.Common.{◌≡◌, ◌^◌, ◌<◌, ◌≤◌, ℕ, zero, suc, ◌+◌, Bool, true, false, eqb, List, [], ◌∷◌, ◌++◌, length, map, Some, None, Result, Ok, Err, refl, sym, ap, subst, ◌∙◌, append_assoc, zero-add, arith, inl, inr}
 use Rattle.std.specs.Prelude.{IfOk, IsOk}
 use Rattle.std.specs.List.{flat_map, AllByRecursion}
 use Rattle.std.specs.Int.{w32}
 use Rattle.std.proofs.Math.Seq.{drop-append_seam}
 use Rattle.std.proofs.lemmas.Bool.{eqb-true}
-use Rattle.std.proofs.lemmas.List.{append-nil, nil_from_length}
+use Rattle.std.proofs.lemmas.List.{append-nil, nil_from_length, length-map}
 use Rattle.std.proofs.lemmas.List.Concat.{flat_map-cons}
 use Rattle.n41_xdr.specs.declared.fault.XdrFault.{XdrFault}
+use Rattle.n41_xdr.specs.Spelling as spelling
 use Rattle.n41_xdr.specs.Reading.{◌>>=◌, number_at}
 use Rattle.n41_xdr.specs.Format.{made, fault_as, choose}
 use Rattle.n41_xdr.specs.Lawful.{IsBytes, Takes, IsLawful}
@@ -33,7 +34,7 @@ use Rattle.n41_seen.specs.declared.calls.SeenTail.TheVariants.{Whole, Unknown, B
 use Rattle.n41_seen.specs.declared.calls.CallSeen.{CallSeen}
 use Rattle.n41_seen.specs.declared.compounds.Operations.{Operations}
 use Rattle.n41_seen.specs.declared.compounds.Compound.{Compound}
-use Rattle.n41_seen.specs.Calls.{is_compound, front, is_row, is_operation, Seen, with, argued, numbered, ops_seen, none_read, with_minor, told_front, behind_front, compound_at, call_of, behind_head, call_at, Begins, BeginsNone, SpellsTail, SpellsOps, SpellsCompound, SpellsBehind, compound_of, SpellsCall, whole_text, WholeFits, whole_call}
+use Rattle.n41_seen.specs.Calls.{is_compound, front, is_row, is_operation, Seen, with, argued, numbered, ops_seen, none_read, with_minor, told_front, behind_front, compound_at, call_of, behind_head, call_at, Begins, BeginsNone, SpellsTail, SpellsOps, SpellsCompound, SpellsBehind, compound_of, SpellsCall, call_text, TextFits, whole_call}
 use Rattle.n41_seen.proofs.OpsLoop.{with_ops, seen_as}
 
 IsBytes-behind : (text rest : List ℕ) → IsBytes (text ++ rest) → IsBytes rest
@@ -387,10 +388,19 @@ none_begins_another c d a b more s t e whole_c whole_d =
 
 -- ---- whole calls
 
-pub whole_is_spelled : (xid : ℕ) (c v : Cred) (tag : List ℕ) (minor : ℕ) (told : List ToldArg) → WholeFits xid c v tag minor told → SpellsCall (whole_call xid c minor (map arg_of told)) (whole_text xid c v tag minor told)
+front_text : (tag : List ℕ) (minor count : ℕ) (rest : List ℕ) → spelling.opaque tag ++ (spelling.word minor ++ (spelling.word count ++ rest)) ≡ front.spell (tag, (minor, count)) ++ rest
+unfolding front
+front_text tag minor count rest = simp append_assoc
+
+front_fits : (tag : List ℕ) (minor count : ℕ) → length tag ≤ 65536 → minor < 2 ^ 32 → count < 2 ^ 32 → front.Fits (tag, (minor, count))
+unfolding front
+front_fits tag minor count t m c = ((t, omega (arith, t)), (m, c))
+
+pub whole_is_spelled : (xid : ℕ) (c v : Cred) (tag : List ℕ) (minor : ℕ) (told : List ToldArg) → TextFits xid c v tag minor told
+    → SpellsCall (whole_call xid c minor (map arg_of told)) (call_text xid c v tag minor (length told) told)
 whole_is_spelled xid c v tag minor told f = record {
   verifier = v;
-  rest = front.spell (tag, (minor, length told)) ++ flat_map told_arg.spell told;
+  rest = spelling.opaque tag ++ (spelling.word minor ++ (spelling.word (length told) ++ flat_map told_arg.spell told));
   fits = f.0;
   parts = refl;
   behind = (
@@ -399,14 +409,14 @@ whole_is_spelled xid c v tag minor told f = record {
       tag = tag;
       count = length told;
       rest = flat_map told_arg.spell told;
-      fits = f.1;
-      parts = refl;
+      fits = front_fits tag minor (length told) f.1 f.2 f.3;
+      parts = front_text tag minor (length told) (flat_map told_arg.spell told);
       ops = record {
         told = told;
         more = 0;
         rest = [];
         counted = omega arith;
-        fits = f.2;
+        fits = f.4;
         kept = refl;
         parts = sym (append-nil (flat_map told_arg.spell told));
         behind = (refl, refl);
@@ -415,13 +425,17 @@ whole_is_spelled xid c v tag minor told f = record {
   );
 }
 
-pub told_is_read : (xid : ℕ) (c v : Cred) (tag : List ℕ) (minor : ℕ) (told : List ToldArg) → WholeFits xid c v tag minor told → call_at (whole_text xid c v tag minor told) ≡ Ok (whole_call xid c minor (map arg_of told))
-told_is_read xid c v tag minor told f = whole_is_read (whole_call xid c minor (map arg_of told)) (whole_text xid c v tag minor told) (whole_is_spelled xid c v tag minor told f) refl
+pub told_is_read : (xid : ℕ) (c v : Cred) (tag : List ℕ) (minor : ℕ) (told : List ToldArg) → TextFits xid c v tag minor told
+    → call_at (call_text xid c v tag minor (length told) told) ≡ Ok (whole_call xid c minor (map arg_of told))
+told_is_read xid c v tag minor told f = whole_is_read (whole_call xid c minor (map arg_of told)) (call_text xid c v tag minor (length told) told) (whole_is_spelled xid c v tag minor told f) refl
 
 list_kept : (list : List Arg) → map arg_of (map written_arg list) ≡ list
 list_kept [] = refl
 list_kept (x ∷ list) = ap (λ (a : Arg). a ∷ map arg_of (map written_arg list)) (arg_kept x) ∙ ap (λ (l : List Arg). x ∷ l) (list_kept list)
 
-pub written_is_read : (xid : ℕ) (c v : Cred) (tag : List ℕ) (minor : ℕ) (list : List Arg) → WholeFits xid c v tag minor (map written_arg list)
-    → call_at (whole_text xid c v tag minor (map written_arg list)) ≡ Ok (whole_call xid c minor list)
-written_is_read xid c v tag minor list f = told_is_read xid c v tag minor (map written_arg list) f ∙ ap (λ (l : List Arg). call_ok (whole_call xid c minor l)) (list_kept list)
+pub written_is_read : (xid : ℕ) (c v : Cred) (tag : List ℕ) (minor : ℕ) (list : List Arg) → TextFits xid c v tag minor (map written_arg list)
+    → call_at (call_text xid c v tag minor (length list) (map written_arg list)) ≡ Ok (whole_call xid c minor list)
+written_is_read xid c v tag minor list f =
+    ap (λ (n : ℕ). call_at (call_text xid c v tag minor n (map written_arg list))) (sym (length-map list written_arg))
+    ∙ told_is_read xid c v tag minor (map written_arg list) f
+    ∙ ap (λ (l : List Arg). call_ok (whole_call xid c minor l)) (list_kept list)

@@ -1,5 +1,5 @@
 -- Calls of COMPOUND as a server sees them: how they are read, and how they are spelled (RFC 5531, call_body; RFC 8881, COMPOUND4args).
-use Rattle.std.specs.Prelude.{◌≡◌, ◌<◌, ◌^◌, ◌+◌, ◌++◌, ◌==◌, ◌&&◌, ◌||◌, if◌then◌else◌, ℕ, zero, suc, List, [], ◌∷◌, length, map, Bool, true, false, Option, Some, None, Result, Ok, Err}
+use Rattle.std.specs.Prelude.{◌≡◌, ◌<◌, ◌≤◌, ◌^◌, ◌+◌, ◌++◌, ◌==◌, ◌&&◌, ◌||◌, if◌then◌else◌, ℕ, zero, suc, List, [], ◌∷◌, length, map, Bool, true, false, Option, Some, None, Result, Ok, Err}
 use Rattle.std.specs.List.{flat_map, AllByRecursion}
 use Rattle.std.specs.Int.{w32}
 use Rattle.n41_xdr.specs.declared.fault.XdrFault.{XdrFault}
@@ -155,14 +155,15 @@ pub record SpellsCall (c : CallSeen) (bytes : List ℕ) : Type 0 where
 
 -- ---- whole calls
 
--- a call of COMPOUND with these operations
-abbrev pub whole_text : ℕ → Cred → Cred → List ℕ → ℕ → List ToldArg → List ℕ
-whole_text xid cred verifier tag minor told =
-    head.spell (xid, call 100003 4 1 cred verifier) ++ (front.spell (tag, (minor, length told)) ++ flat_map told_arg.spell told)
+-- a call of COMPOUND with these operations, where so many are told of
+abbrev pub call_text : ℕ → Cred → Cred → List ℕ → ℕ → ℕ → List ToldArg → List ℕ
+call_text xid cred verifier tag minor count told =
+    head.spell (xid, call 100003 4 1 cred verifier) ++ (spelling.opaque tag ++ (spelling.word minor ++ (spelling.word count ++ flat_map told_arg.spell told)))
 
-abbrev pub WholeFits : ℕ → Cred → Cred → List ℕ → ℕ → List ToldArg → Type 0
-WholeFits xid cred verifier tag minor told =
-    head.Fits (xid, call 100003 4 1 cred verifier) × front.Fits (tag, (minor, length told)) × AllByRecursion told_arg.Fits told
+-- the parts have a spelling
+abbrev pub TextFits : ℕ → Cred → Cred → List ℕ → ℕ → List ToldArg → Type 0
+TextFits xid cred verifier tag minor told =
+    head.Fits (xid, call 100003 4 1 cred verifier) × (length tag ≤ 65536) × (minor < 2 ^ 32) × (length told < 2 ^ 32) × AllByRecursion told_arg.Fits told
 
 -- what is seen of it
 abbrev pub whole_call : ℕ → Cred → ℕ → List Arg → CallSeen

@@ -1,4 +1,4 @@
-ghost use Rattle.std.specs.Prelude.{◌≡◌, ◌++◌, ◌↔◌, [], List, ℕ, map, IsOk, Ok, Err};
+ghost use Rattle.std.specs.Prelude.{◌≡◌, ◌++◌, ◌↔◌, [], List, ℕ, length, map, IsOk, Ok, Err};
 ghost use Rattle.n41_xdr.specs.Lawful.{IsBytes};
 ghost use Rattle.n41_rpc.specs.declared.fault.RpcFault.TheVariants.{BadKind};
 ghost use Rattle.n41_rpc.specs.declared.heads.Cred.{Cred};
@@ -8,7 +8,7 @@ ghost use Rattle.n41_args.specs.Args.{ToldArg, arg_of, written_arg};
 ghost use Rattle.n41_replies.specs.declared.fault.MsgFault.TheVariants.{Rpc};
 ghost use Rattle.n41_seen.specs.declared.calls.CallSeen.{CallSeen};
 ghost use Rattle.n41_seen.specs.declared.calls.SeenTail.TheVariants.{Whole};
-ghost use Rattle.n41_seen.specs.Calls.{call_at, whole_text, whole_call, WholeFits, SpellsCall};
+ghost use Rattle.n41_seen.specs.Calls.{call_at, call_text, whole_call, TextFits, SpellsCall};
 
 /// A law: calls are read just where they are spelled.
 pub fn calls_are_read_where_spelled()
@@ -33,7 +33,7 @@ pub fn no_whole_call_begins_another()
 
 /// A law: a call of COMPOUND, with any credential, verifier and tag, is read as its minor version and its operations.
 pub fn whole_calls_are_read()
-    ensures told { (xid : ℕ) (c v : Cred) (tag : List ℕ) (minor : ℕ) (told : List ToldArg) → WholeFits xid c v tag minor told → call_at (whole_text xid c v tag minor told) ≡ Ok (whole_call xid c minor (map arg_of told)) }
-    ensures written { (xid : ℕ) (c v : Cred) (tag : List ℕ) (minor : ℕ) (list : List Arg) → WholeFits xid c v tag minor (map written_arg list) → call_at (whole_text xid c v tag minor (map written_arg list)) ≡ Ok (whole_call xid c minor list) }
-    ensures spelled { (xid : ℕ) (c v : Cred) (tag : List ℕ) (minor : ℕ) (told : List ToldArg) → WholeFits xid c v tag minor told → SpellsCall (whole_call xid c minor (map arg_of told)) (whole_text xid c v tag minor told) }
+    ensures told { (xid : ℕ) (c v : Cred) (tag : List ℕ) (minor : ℕ) (told : List ToldArg) → TextFits xid c v tag minor told → call_at (call_text xid c v tag minor (length told) told) ≡ Ok (whole_call xid c minor (map arg_of told)) }
+    ensures written { (xid : ℕ) (c v : Cred) (tag : List ℕ) (minor : ℕ) (list : List Arg) → TextFits xid c v tag minor (map written_arg list) → call_at (call_text xid c v tag minor (length list) (map written_arg list)) ≡ Ok (whole_call xid c minor list) }
+    ensures spelled { (xid : ℕ) (c v : Cred) (tag : List ℕ) (minor : ℕ) (told : List ToldArg) → TextFits xid c v tag minor told → SpellsCall (whole_call xid c minor (map arg_of told)) (call_text xid c v tag minor (length told) told) }
 {}
