@@ -3,4 +3,3 @@ pub mod Slots
 pub mod Rules
 pub mod Turns
 pub mod Items
-pub mod Fits
