@@ -9,6 +9,8 @@ mod plans;
 mod requests;
 mod seats;
 mod slots;
+#[cfg(test)]
+mod tests;
 mod wants;
 mod xids;
 
