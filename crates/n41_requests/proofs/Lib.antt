@@ -1,0 +1,4 @@
+pub mod Lists
+pub mod Set
+pub mod Counts
+pub mod Lengths

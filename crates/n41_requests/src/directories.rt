@@ -1,6 +1,7 @@
 //! Directories and attributes.
 
 ghost use Rattle.std.specs.Prelude.{◌≡◌, ◌++◌, [], ◌∷◌, IfOk, OnOk, map};
+ghost use Rattle.n41_args.specs.Args.{told_arg, written_arg};
 ghost use Rattle.n41_args.specs.declared.arg.Arg.TheVariants.{Lookup};
 ghost use Rattle.n41_requests.specs.Plans.{args_of, lease_mask, stat_mask};
 ghost use Rattle.n41_requests.specs.Requests.{args_text, AllFit};
@@ -21,12 +22,19 @@ const STAT_WORDS: [u32; 2] = [1 << 1 | 1 << 3 | 1 << 4 | 1 << 20, 1 << 1];
 /// The lease time, 10.
 const LEASE_WORD: u32 = 1 << 10;
 
+fn write_name(alloc: Global, w: &mut Writer, name: &Name) -> Result<(), NoMemory>
+    requires { told_arg.Fits (written_arg (Lookup name.now)) }
+    ensures { OnOk result (w.new ≡ w.old ++ told_arg.spell (written_arg (Lookup name.now))) }
+{
+    write_arg(w, &Arg::Lookup(name_bytes(alloc, name)?))
+}
+
 fn write_names(alloc: Global, w: &mut Writer, names: &[Name]) -> Result<(), NoMemory>
     requires { AllFit (map (λ name. Lookup name) names.now) }
     ensures { OnOk result (w.new ≡ w.old ++ args_text (map (λ name. Lookup name) names.now)) }
 {
     for name in names {
-        write_arg(w, &Arg::Lookup(name_bytes(alloc, name)?))?;
+        write_name(alloc, w, name)?;
     }
     Ok(())
 }

@@ -3,9 +3,14 @@
 
 mod directories;
 mod files;
+mod fitting;
 mod locks;
 mod openings;
 mod parts;
 mod places;
 mod sessions;
+mod spelling;
 mod stateids;
+mod writing;
+
+pub use spelling::{request_fits, spell};

@@ -2,12 +2,15 @@ ghost use Rattle.std.specs.Prelude.{◌≡◌, ◌<◌, ◌≤◌, ◌^◌, leng
 ghost use Rattle.n41_types.specs.Spans.{length_on_wire};
 ghost use Rattle.n41_attr.specs.Parts.{fh, hyper, session, stateid, string, verifier};
 ghost use Rattle.n41_args.specs.Args.{told_arg, written_arg};
+ghost use Rattle.n41_args.specs.declared.arg.Arg.TheVariants.{Sequence};
 ghost use Rattle.n41_args.specs.Owners.{state_owner};
 ghost use Rattle.n41_args.specs.Openings.{open_claim};
 ghost use Rattle.n41_args.specs.Locks.{locker};
 ghost use Rattle.n41_requests.specs.Plans.{put, owner_of, claim_of, locker_of};
 
-use n41_types::{Claim, Fh, Locker, Name, Owner, Place, SessionId, Span, Stateid, Verifier};
+use n41_types::{
+    Claim, Fh, Locker, Name, Owner, Place, SessionId, SlotUse, Span, Stateid, Verifier,
+};
 
 #[tactic(auto, unfolding(n41_attr::specs::Parts::fh))]
 pub(crate) fn fh_fits(x: &Fh)
@@ -94,4 +97,12 @@ pub(crate) fn locker_fits(x: &Locker)
         }
         Locker::Old(stateid) => stateid_fits(stateid),
     }
+}
+
+#[tactic(auto, unfolding(n41_args::specs::Args::told_arg, n41_session_args::specs::Sessions::sequence))]
+pub(crate) fn slot_fits(x: &SlotUse)
+    ensures { told_arg.Fits (written_arg (Sequence x.now)) }
+{
+    session_fits(&x.sid);
+    let _numbers = (x.turn, x.slot, x.highest);
 }
