@@ -1,13 +1,15 @@
 -- How many operations a plan has.
-use Rattle.std.proofs.Common.{◌≡◌, ◌<◌, ◌+◌, ◌^◌, ℕ, List, [], ◌∷◌, ◌++◌, length, map, length-append, arith}
+use Rattle.std.proofs.Common.{◌≡◌, ◌<◌, ◌+◌, ◌^◌, ℕ, List, [], ◌∷◌, ◌++◌, length, map, Option, Some, None, length-append, arith}
 use Rattle.std.proofs.lemmas.List.{length-map}
 use Rattle.n41_types.specs.declared.plans.Place.{Place}
 use Rattle.n41_types.specs.declared.plans.Plan.{Plan}
 use Rattle.n41_types.specs.declared.plans.Plan.TheVariants as plan
+use Rattle.n41_types.specs.declared.plans.Request.{Request}
+use Rattle.n41_types.specs.declared.plans.SlotUse.{SlotUse}
 use Rattle.n41_args.specs.declared.arg.Arg.{Arg}
 use Rattle.n41_args.specs.declared.arg.Arg.TheVariants.{Lookup, GetFh}
-use Rattle.n41_requests.specs.Plans.{args_of}
-use Rattle.n41_requests.specs.Requests.{IsSpellablePlan}
+use Rattle.n41_requests.specs.Plans.{args_of, behind, request_args}
+use Rattle.n41_requests.specs.Requests.{IsSpellable, IsSpellablePlan}
 
 pub walk_count : (from : Place) (names : List (List ℕ)) → length (args_of (plan.Walk from names)) ≡ length names + 2
 walk_count from names =
@@ -42,3 +44,10 @@ plan_count (plan.Resize f s n) fits = omega arith
 plan_count (plan.MakeDir d n) fits = omega arith
 plan_count (plan.Remove d n) fits = omega arith
 plan_count (plan.Rename a b c d) fits = omega arith
+
+behind_count : (slot : Option SlotUse) (args : List Arg) → length args + 1 < 2 ^ 32 → length (behind slot args) < 2 ^ 32
+behind_count None args lt = omega arith
+behind_count (Some s) args lt = omega arith
+
+pub request_count : (q : Request) → IsSpellable q → length (request_args q) < 2 ^ 32
+request_count q fits = behind_count q.slot (args_of q.plan) (plan_count q.plan fits)

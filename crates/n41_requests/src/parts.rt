@@ -104,5 +104,7 @@ pub(crate) fn slot_fits(x: &SlotUse)
     ensures { told_arg.Fits (written_arg (Sequence x.now)) }
 {
     session_fits(&x.sid);
-    let _numbers = (x.turn, x.slot, x.highest);
+    let _turn = x.turn;
+    let _slot = x.slot;
+    let _highest = x.highest;
 }

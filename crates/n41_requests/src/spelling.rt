@@ -1,6 +1,6 @@
 ghost use Rattle.std.specs.Prelude.{◌≡◌, ◌++◌, ◌≤◌, IfOk, OnOk, length};
 ghost use Rattle.n41_rpc.specs.Heads.{head, system, system_of, written_call};
-ghost use Rattle.n41_requests.specs.Plans.{args_of};
+ghost use Rattle.n41_requests.specs.Plans.{args_of, request_args};
 ghost use Rattle.n41_requests.specs.Requests.{call_head, spelled, AllFit, Fits, IsSpellable, IsSpellablePlan};
 
 use crate::fitting::{
@@ -97,18 +97,28 @@ fn plan_fits(plan: &Plan)
     }
 }
 
-/// Every request that is spellable fits in its spelling, by the types of its parts.
-#[tactic(auto, unfolding(crate::specs::Requests::Fits), using(crate::proofs::Counts::plan_count))]
-pub fn request_fits(q: &Request)
+fn operations_fit(q: &Request)
     requires { IsSpellable q.now }
-    ensures { Fits q.now }
+    ensures { AllFit (request_args q.now) }
 {
-    let _numbers = (q.xid, q.uid, q.gid, q.minor);
     plan_fits(&q.plan);
     match &q.slot {
         None => {}
         Some(slot) => slot_fits(slot),
     }
+}
+
+/// Every request that is spellable fits in its spelling, by the types of its parts.
+#[tactic(auto, unfolding(crate::specs::Requests::Fits), using(crate::proofs::Counts::request_count))]
+pub fn request_fits(q: &Request)
+    requires { IsSpellable q.now }
+    ensures { Fits q.now }
+{
+    operations_fit(q);
+    let _xid = q.xid;
+    let _uid = q.uid;
+    let _gid = q.gid;
+    let _minor = q.minor;
 }
 
 /// The body of AUTH_SYS.
