@@ -4,6 +4,7 @@
 mod directories;
 mod files;
 mod fitting;
+mod laws;
 mod locks;
 mod openings;
 mod parts;
@@ -13,4 +14,5 @@ mod spelling;
 mod stateids;
 mod writing;
 
+pub use laws::{small_requests, what_is_spelled_is_asked};
 pub use spelling::{request_fits, spell};
