@@ -9,8 +9,6 @@ mod plans;
 mod requests;
 mod seats;
 mod slots;
-#[cfg(test)]
-mod tests;
 mod wants;
 mod xids;
 
