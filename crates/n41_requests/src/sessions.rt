@@ -13,6 +13,9 @@ use std::alloc::Global;
 /// The program of the callbacks.
 const CALLBACK_PROGRAM: u32 = 0x40000000;
 
+/// Neither PERSIST nor CONN_BACK_CHAN (RFC 8881, section 18.36).
+const SESSION_FLAGS: u32 = 0;
+
 /// CDFC4_FORE (RFC 8881, channel_dir_from_client4).
 const FORE: u32 = 1;
 
@@ -59,7 +62,7 @@ fn create_session_args(alloc: Global, client: u64, seq: u32) -> Result<CreateSes
     Ok(CreateSessionArgs {
         client,
         sequence: seq,
-        flags: 0,
+        flags: SESSION_FLAGS,
         fore: FORE_CHANNEL,
         back: BACK_CHANNEL,
         program: CALLBACK_PROGRAM,
