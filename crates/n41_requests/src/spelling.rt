@@ -19,7 +19,9 @@ use std::alloc::Global;
 
 /// NFS (RFC 5531, section 13; RFC 8881, section 16).
 const PROGRAM: u32 = 100003;
+
 const VERSION: u32 = 4;
+
 const COMPOUND: u32 = 1;
 
 /// AUTH_SYS (RFC 5531, section 8.2).
