@@ -1,12 +1,11 @@
 -- What is spelled of a request is what is asked for.
-use Rattle.std.proofs.Common.{◌≡◌, ◌<◌, ◌≤◌, ◌+◌, ◌*◌, ◌/◌, ◌%◌, ℕ, zero, suc, Bool, true, false, eqb, cond, List, [], ◌∷◌, ◌++◌, length, map, replicate, Option, Some, None, refl, ap, ◌∙◌, sym, inl, inr, arith}
+use Rattle.std.proofs.Common.{◌≡◌, ◌<◌, ◌≤◌, ◌/◌, ◌%◌, ℕ, zero, suc, Bool, true, false, eqb, cond, List, [], ◌∷◌, ◌++◌, length, map, replicate, Option, Some, None, refl, ap, ◌∙◌, sym, inl, inr, arith}
 use Rattle.std.specs.List.{list_any}
 use Rattle.std.specs.Prelude.{slice_index}
 use Rattle.std.proofs.lemmas.Bool.{cases_eq, cases_lt, ne_eqb}
 use Rattle.std.proofs.lemmas.Nat.Bits.{bit_at-zero}
 use Rattle.n41_types.specs.declared.operations.Operation.{Operation}
 use Rattle.n41_types.specs.declared.operations.Operation.TheVariants as op
-use Rattle.n41_types.specs.declared.plans.Claim.{Claim}
 use Rattle.n41_types.specs.declared.plans.Place.{Place}
 use Rattle.n41_types.specs.declared.plans.Place.TheVariants.{Root, At}
 use Rattle.n41_types.specs.declared.plans.Plan.{Plan}

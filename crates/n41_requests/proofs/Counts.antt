@@ -1,5 +1,5 @@
 -- How many operations a plan has.
-use Rattle.std.proofs.Common.{◌≡◌, ◌<◌, ◌+◌, ◌^◌, ℕ, List, [], ◌∷◌, ◌++◌, length, map, Option, Some, None, length-append, arith}
+use Rattle.std.proofs.Common.{◌≡◌, ◌<◌, ◌+◌, ◌^◌, ℕ, List, [], ◌∷◌, length, map, Option, Some, None, length-append, arith}
 use Rattle.std.proofs.lemmas.List.{length-map}
 use Rattle.n41_types.specs.declared.plans.Place.{Place}
 use Rattle.n41_types.specs.declared.plans.Plan.{Plan}

@@ -1,5 +1,5 @@
 -- Attributes that are set fit in their spelling.
-use Rattle.std.proofs.Common.{◌≡◌, ◌<◌, ◌^◌, ℕ, Bool, true, false, arith}
+use Rattle.std.proofs.Common.{◌<◌, ◌^◌, ℕ, Bool, true, false, arith}
 use Rattle.n41_attr.specs.Attributes.{written}
 use Rattle.n41_attr.specs.Parts.{fattr}
 use Rattle.n41_attr.proofs.Written.{written_fits}

@@ -1,6 +1,5 @@
 -- Short requests.
-use Rattle.std.proofs.Common.{◌≡◌, ◌≤◌, ◌<◌, ◌+◌, ◌%◌, ◌-◌, ℕ, Bool, true, false, List, [], ◌∷◌, ◌++◌, length, length-append, take, length-take, Option, Some, None, refl, arith}
-use Rattle.std.proofs.lemmas.List.Concat.{flat_map-cons}
+use Rattle.std.proofs.Common.{◌≡◌, ◌≤◌, ◌+◌, ℕ, Bool, true, false, List, [], ◌∷◌, length, length-append, length-take, Option, Some, None, arith}
 use Rattle.n41_xdr.specs.Spelling as spelling
 use Rattle.n41_types.specs.declared.identities.SessionId.{SessionId}
 use Rattle.n41_types.specs.declared.plans.Place.TheVariants.{Root, At}

@@ -1,5 +1,5 @@
 -- The operations of each plan, with their arguments (RFC 8881, section 18).
-use Rattle.std.specs.Prelude.{ℕ, List, [], ◌∷◌, ◌++◌, map, Bool, true, false, Option, Some, None}
+use Rattle.std.specs.Prelude.{ℕ, List, [], ◌∷◌, ◌++◌, map, false, Option, Some, None}
 use Rattle.n41_types.specs.Spans.{length_on_wire}
 use Rattle.n41_types.specs.declared.attributes.Attrs.{Attrs}
 use Rattle.n41_types.specs.declared.plans.Claim.{Claim}
@@ -20,16 +20,13 @@ use Rattle.n41_results.specs.declared.results.LockType.{LockType}
 use Rattle.n41_results.specs.declared.results.LockType.TheVariants as lock_type
 use Rattle.n41_results.specs.declared.sessions.Channel.{Channel}
 use Rattle.n41_session_args.specs.declared.security.Security.TheVariants as security
-use Rattle.n41_session_args.specs.declared.sessions.BindArgs.{BindArgs}
 use Rattle.n41_session_args.specs.declared.sessions.CreateSessionArgs.{CreateSessionArgs}
-use Rattle.n41_session_args.specs.declared.sessions.ExchangeIdArgs.{ExchangeIdArgs}
 use Rattle.n41_args.specs.declared.arg.Arg.{Arg}
 use Rattle.n41_args.specs.declared.arg.Arg.TheVariants as arg
 use Rattle.n41_args.specs.declared.locks.LockerArgs.{LockerArgs}
 use Rattle.n41_args.specs.declared.locks.LockerArgs.TheVariants as locker
 use Rattle.n41_args.specs.declared.openings.OpenClaim.{OpenClaim}
 use Rattle.n41_args.specs.declared.openings.OpenClaim.TheVariants as claim
-use Rattle.n41_args.specs.declared.openings.OpenHow.{OpenHow}
 use Rattle.n41_args.specs.declared.openings.OpenHow.TheVariants as how
 use Rattle.n41_args.specs.declared.owners.StateOwner.{StateOwner}
 

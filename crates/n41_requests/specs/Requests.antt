@@ -1,5 +1,5 @@
 -- How a request is spelled (RFC 5531, section 9; RFC 8881, section 16.2).
-use Rattle.std.specs.Prelude.{◌<◌, ◌≤◌, ◌^◌, ◌+◌, ℕ, List, [], ◌∷◌, ◌++◌, length, map}
+use Rattle.std.specs.Prelude.{◌<◌, ◌≤◌, ◌^◌, ◌+◌, ℕ, List, [], ◌++◌, length, map}
 use Rattle.std.specs.List.{flat_map, AllByRecursion}
 use Rattle.n41_xdr.specs.Spelling as spelling
 use Rattle.n41_types.specs.declared.plans.Place.TheVariants.{Root}

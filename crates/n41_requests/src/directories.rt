@@ -39,7 +39,12 @@ fn write_names(alloc: Global, w: &mut Writer, names: &[Name]) -> Result<(), NoMe
     Ok(())
 }
 
-pub(crate) fn write_walk(alloc: Global, w: &mut Writer, from: &Place, names: &Path) -> Result<(), NoMemory>
+pub(crate) fn write_walk(
+    alloc: Global,
+    w: &mut Writer,
+    from: &Place,
+    names: &Path,
+) -> Result<(), NoMemory>
     requires { AllFit (args_of (Plan.Walk from.now names.now)) }
     ensures { OnOk result (w.new ≡ w.old ++ args_text (args_of (Plan.Walk from.now names.now))) }
 {
@@ -81,7 +86,14 @@ pub(crate) fn write_lease_time(alloc: Global, w: &mut Writer) -> Result<(), NoMe
     write_arg(w, &Arg::GetAttr(lease_mask(alloc)?))
 }
 
-pub(crate) fn write_list(alloc: Global, w: &mut Writer, at: &Place, cookie: u64, verf: &Verifier, max: u32) -> Result<(), NoMemory>
+pub(crate) fn write_list(
+    alloc: Global,
+    w: &mut Writer,
+    at: &Place,
+    cookie: u64,
+    verf: &Verifier,
+    max: u32,
+) -> Result<(), NoMemory>
     requires { AllFit (args_of (Plan.List at.now cookie verf.now max)) }
     ensures { OnOk result (w.new ≡ w.old ++ args_text (args_of (Plan.List at.now cookie verf.now max))) }
 {
@@ -96,7 +108,12 @@ pub(crate) fn write_list(alloc: Global, w: &mut Writer, at: &Place, cookie: u64,
     write_arg(w, &Arg::ReadDir(args))
 }
 
-pub(crate) fn write_make_dir(alloc: Global, w: &mut Writer, dir: &Place, name: &Name) -> Result<(), NoMemory>
+pub(crate) fn write_make_dir(
+    alloc: Global,
+    w: &mut Writer,
+    dir: &Place,
+    name: &Name,
+) -> Result<(), NoMemory>
     requires { AllFit (args_of (Plan.MakeDir dir.now name.now)) }
     ensures { OnOk result (w.new ≡ w.old ++ args_text (args_of (Plan.MakeDir dir.now name.now))) }
 {
@@ -108,7 +125,12 @@ pub(crate) fn write_make_dir(alloc: Global, w: &mut Writer, dir: &Place, name: &
     write_arg(w, &Arg::Create(args))
 }
 
-pub(crate) fn write_remove(alloc: Global, w: &mut Writer, dir: &Place, name: &Name) -> Result<(), NoMemory>
+pub(crate) fn write_remove(
+    alloc: Global,
+    w: &mut Writer,
+    dir: &Place,
+    name: &Name,
+) -> Result<(), NoMemory>
     requires { AllFit (args_of (Plan.Remove dir.now name.now)) }
     ensures { OnOk result (w.new ≡ w.old ++ args_text (args_of (Plan.Remove dir.now name.now))) }
 {
@@ -116,7 +138,14 @@ pub(crate) fn write_remove(alloc: Global, w: &mut Writer, dir: &Place, name: &Na
     write_arg(w, &Arg::Remove(name_bytes(alloc, name)?))
 }
 
-pub(crate) fn write_rename(alloc: Global, w: &mut Writer, from: &Place, old: &Name, to: &Place, new: &Name) -> Result<(), NoMemory>
+pub(crate) fn write_rename(
+    alloc: Global,
+    w: &mut Writer,
+    from: &Place,
+    old: &Name,
+    to: &Place,
+    new: &Name,
+) -> Result<(), NoMemory>
     requires { AllFit (args_of (Plan.Rename from.now old.now to.now new.now)) }
     ensures { OnOk result (w.new ≡ w.old ++ args_text (args_of (Plan.Rename from.now old.now to.now new.now))) }
 {

@@ -12,7 +12,13 @@ use n41_xdr::Writer;
 /// FILE_SYNC4 (RFC 8881, stable_how4).
 const FILE_SYNC: u32 = 2;
 
-pub(crate) fn write_read(w: &mut Writer, fh: &Fh, stateid: &Stateid, offset: u64, count: u32) -> Result<(), NoMemory>
+pub(crate) fn write_read(
+    w: &mut Writer,
+    fh: &Fh,
+    stateid: &Stateid,
+    offset: u64,
+    count: u32,
+) -> Result<(), NoMemory>
     requires { AllFit (args_of (Plan.Read fh.now stateid.now offset count)) }
     ensures { OnOk result (w.new ≡ w.old ++ args_text (args_of (Plan.Read fh.now stateid.now offset count))) }
 {
@@ -25,7 +31,13 @@ pub(crate) fn write_read(w: &mut Writer, fh: &Fh, stateid: &Stateid, offset: u64
     write_arg(w, &Arg::Read(args))
 }
 
-pub(crate) fn write_bytes(w: &mut Writer, fh: &Fh, stateid: &Stateid, offset: u64, bytes: &Bytes) -> Result<(), NoMemory>
+pub(crate) fn write_bytes(
+    w: &mut Writer,
+    fh: &Fh,
+    stateid: &Stateid,
+    offset: u64,
+    bytes: &Bytes,
+) -> Result<(), NoMemory>
     requires { AllFit (args_of (Plan.WriteBytes fh.now stateid.now offset bytes.now)) }
     ensures { OnOk result (w.new ≡ w.old ++ args_text (args_of (Plan.WriteBytes fh.now stateid.now offset bytes.now))) }
 {
@@ -53,7 +65,12 @@ fn with_size(size: u64) -> Attrs
     }
 }
 
-pub(crate) fn write_resize(w: &mut Writer, fh: &Fh, stateid: &Stateid, size: u64) -> Result<(), NoMemory>
+pub(crate) fn write_resize(
+    w: &mut Writer,
+    fh: &Fh,
+    stateid: &Stateid,
+    size: u64,
+) -> Result<(), NoMemory>
     requires { AllFit (args_of (Plan.Resize fh.now stateid.now size)) }
     ensures { OnOk result (w.new ≡ w.old ++ args_text (args_of (Plan.Resize fh.now stateid.now size))) }
 {

@@ -26,8 +26,7 @@ pub(crate) fn exchange_id_fits(verifier: &Verifier, owner: &Bytes)
 #[tactic(auto, unfolding(n41_args::specs::Args::told_arg, n41_session_args::specs::Sessions::create_session, n41_session_args::specs::Sessions::channel, n41_session_args::specs::Security::securities, n41_session_args::specs::Security::callback_security))]
 pub(crate) fn create_session_fits(client: u64, seq: u32)
     ensures { AllFit (args_of (Plan.CreateSession client seq)) }
-{
-}
+{}
 
 #[tactic(auto, unfolding(n41_args::specs::Args::told_arg, n41_session_args::specs::Sessions::bind))]
 pub(crate) fn bind_fits(sid: &SessionId)
@@ -46,8 +45,7 @@ pub(crate) fn destroy_session_fits(sid: &SessionId)
 #[tactic(auto, unfolding(n41_args::specs::Args::told_arg))]
 pub(crate) fn destroy_client_fits(client: u64)
     ensures { AllFit (args_of (Plan.DestroyClient client)) }
-{
-}
+{}
 
 fn names_fit(names: &[Name])
     ensures { AllByRecursion string.Fits names.now }
@@ -75,8 +73,7 @@ pub(crate) fn stat_fits(at: &Place)
 #[tactic(auto, unfolding(n41_args::specs::Args::told_arg, n41_attr::specs::Parts::bitmap, n41_attr::specs::Bitmaps::bitmap))]
 pub(crate) fn lease_time_fits()
     ensures { AllFit (args_of Plan.LeaseTime) }
-{
-}
+{}
 
 #[tactic(auto, unfolding(n41_args::specs::Args::told_arg, n41_args::specs::Files::read_args))]
 pub(crate) fn read_fits(fh: &Fh, stateid: &Stateid, offset: u64, count: u32)
@@ -198,8 +195,7 @@ pub(crate) fn free_fits(stateid: &Stateid)
 #[tactic(auto, unfolding(n41_args::specs::Args::told_arg))]
 pub(crate) fn complete_fits()
     ensures { AllFit (args_of Plan.Complete) }
-{
-}
+{}
 
 #[tactic(auto, unfolding(n41_args::specs::Args::told_arg, n41_args::specs::Openings::told_open, n41_args::specs::Openings::open_claim), using(crate::proofs::Set::created_fits))]
 pub(crate) fn create_file_fits(dir: &Place, name: &Name, guarded: bool, owner: &Owner)

@@ -46,7 +46,14 @@ fn locker_args(locker: &Locker) -> Result<LockerArgs, NoMemory>
     })
 }
 
-pub(crate) fn write_lock(w: &mut Writer, fh: &Fh, kind: LockKind, span: Span, reclaim: bool, locker: &Locker) -> Result<(), NoMemory>
+pub(crate) fn write_lock(
+    w: &mut Writer,
+    fh: &Fh,
+    kind: LockKind,
+    span: Span,
+    reclaim: bool,
+    locker: &Locker,
+) -> Result<(), NoMemory>
     requires { AllFit (args_of (Plan.LockBytes fh.now kind span reclaim locker.now)) }
     ensures { OnOk result (w.new ≡ w.old ++ args_text (args_of (Plan.LockBytes fh.now kind span reclaim locker.now))) }
 {
@@ -61,7 +68,13 @@ pub(crate) fn write_lock(w: &mut Writer, fh: &Fh, kind: LockKind, span: Span, re
     write_arg(w, &Arg::Lock(args))
 }
 
-pub(crate) fn write_test_lock(w: &mut Writer, fh: &Fh, kind: LockKind, span: Span, owner: &Owner) -> Result<(), NoMemory>
+pub(crate) fn write_test_lock(
+    w: &mut Writer,
+    fh: &Fh,
+    kind: LockKind,
+    span: Span,
+    owner: &Owner,
+) -> Result<(), NoMemory>
     requires { AllFit (args_of (Plan.TestLock fh.now kind span owner.now)) }
     ensures { OnOk result (w.new ≡ w.old ++ args_text (args_of (Plan.TestLock fh.now kind span owner.now))) }
 {
@@ -75,7 +88,12 @@ pub(crate) fn write_test_lock(w: &mut Writer, fh: &Fh, kind: LockKind, span: Spa
     write_arg(w, &Arg::LockTest(args))
 }
 
-pub(crate) fn write_unlock(w: &mut Writer, fh: &Fh, span: Span, stateid: &Stateid) -> Result<(), NoMemory>
+pub(crate) fn write_unlock(
+    w: &mut Writer,
+    fh: &Fh,
+    span: Span,
+    stateid: &Stateid,
+) -> Result<(), NoMemory>
     requires { AllFit (args_of (Plan.UnlockBytes fh.now span stateid.now)) }
     ensures { OnOk result (w.new ≡ w.old ++ args_text (args_of (Plan.UnlockBytes fh.now span stateid.now))) }
 {

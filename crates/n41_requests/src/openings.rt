@@ -49,7 +49,13 @@ pub(crate) fn with_mode(mode: u32) -> Attrs
     }
 }
 
-pub(crate) fn write_open_at(w: &mut Writer, fh: &Fh, mode: Mode, owner: &Owner, claim: Claim) -> Result<(), NoMemory>
+pub(crate) fn write_open_at(
+    w: &mut Writer,
+    fh: &Fh,
+    mode: Mode,
+    owner: &Owner,
+    claim: Claim,
+) -> Result<(), NoMemory>
     requires { AllFit (args_of (Plan.OpenAt fh.now mode owner.now claim)) }
     ensures { OnOk result (w.new ≡ w.old ++ args_text (args_of (Plan.OpenAt fh.now mode owner.now claim))) }
 {
@@ -66,7 +72,14 @@ pub(crate) fn write_open_at(w: &mut Writer, fh: &Fh, mode: Mode, owner: &Owner, 
     write_arg(w, &Arg::GetFh)
 }
 
-pub(crate) fn write_create_file(alloc: Global, w: &mut Writer, dir: &Place, name: &Name, guarded: bool, owner: &Owner) -> Result<(), NoMemory>
+pub(crate) fn write_create_file(
+    alloc: Global,
+    w: &mut Writer,
+    dir: &Place,
+    name: &Name,
+    guarded: bool,
+    owner: &Owner,
+) -> Result<(), NoMemory>
     requires { AllFit (args_of (Plan.CreateFile dir.now name.now guarded owner.now)) }
     ensures { OnOk result (w.new ≡ w.old ++ args_text (args_of (Plan.CreateFile dir.now name.now guarded owner.now))) }
 {
@@ -86,7 +99,12 @@ pub(crate) fn write_create_file(alloc: Global, w: &mut Writer, dir: &Place, name
     write_arg(w, &Arg::GetFh)
 }
 
-pub(crate) fn write_downgrade(w: &mut Writer, fh: &Fh, stateid: &Stateid, mode: Mode) -> Result<(), NoMemory>
+pub(crate) fn write_downgrade(
+    w: &mut Writer,
+    fh: &Fh,
+    stateid: &Stateid,
+    mode: Mode,
+) -> Result<(), NoMemory>
     requires { AllFit (args_of (Plan.Downgrade fh.now stateid.now mode)) }
     ensures { OnOk result (w.new ≡ w.old ++ args_text (args_of (Plan.Downgrade fh.now stateid.now mode))) }
 {

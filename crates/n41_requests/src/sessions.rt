@@ -13,10 +13,17 @@ use std::alloc::Global;
 /// The program of the callbacks.
 const CALLBACK_PROGRAM: u32 = 0x40000000;
 
+/// Neither PERSIST nor CONN_BACK_CHAN (RFC 8881, section 18.36).
+const SESSION_FLAGS: u32 = 0;
+
 /// CDFC4_FORE (RFC 8881, channel_dir_from_client4).
 const FORE: u32 = 1;
 
-pub(crate) fn write_exchange_id(w: &mut Writer, verifier: &Verifier, owner: &Bytes) -> Result<(), NoMemory>
+pub(crate) fn write_exchange_id(
+    w: &mut Writer,
+    verifier: &Verifier,
+    owner: &Bytes,
+) -> Result<(), NoMemory>
     requires { AllFit (args_of (Plan.ExchangeId verifier.now owner.now)) }
     ensures { OnOk result (w.new ≡ w.old ++ args_text (args_of (Plan.ExchangeId verifier.now owner.now))) }
 {
@@ -59,7 +66,7 @@ fn create_session_args(alloc: Global, client: u64, seq: u32) -> Result<CreateSes
     Ok(CreateSessionArgs {
         client,
         sequence: seq,
-        flags: 0,
+        flags: SESSION_FLAGS,
         fore: FORE_CHANNEL,
         back: BACK_CHANNEL,
         program: CALLBACK_PROGRAM,
@@ -67,11 +74,19 @@ fn create_session_args(alloc: Global, client: u64, seq: u32) -> Result<CreateSes
     })
 }
 
-pub(crate) fn write_create_session(alloc: Global, w: &mut Writer, client: u64, seq: u32) -> Result<(), NoMemory>
+pub(crate) fn write_create_session(
+    alloc: Global,
+    w: &mut Writer,
+    client: u64,
+    seq: u32,
+) -> Result<(), NoMemory>
     requires { AllFit (args_of (Plan.CreateSession client seq)) }
     ensures { OnOk result (w.new ≡ w.old ++ args_text (args_of (Plan.CreateSession client seq))) }
 {
-    write_arg(w, &Arg::CreateSession(create_session_args(alloc, client, seq)?))
+    write_arg(
+        w,
+        &Arg::CreateSession(create_session_args(alloc, client, seq)?),
+    )
 }
 
 pub(crate) fn write_bind(w: &mut Writer, sid: SessionId) -> Result<(), NoMemory>

@@ -1,7 +1,7 @@
 ghost use Rattle.std.specs.Prelude.{◌≡◌, ◌++◌, ◌≤◌, IfOk, OnOk, length};
 ghost use Rattle.n41_rpc.specs.Heads.{head, system, system_of, written_call};
 ghost use Rattle.n41_requests.specs.Plans.{args_of, request_args};
-ghost use Rattle.n41_requests.specs.Requests.{call_head, spelled, AllFit, Fits, IsSpellable, IsSpellablePlan};
+ghost use Rattle.n41_requests.specs.Requests.{call_head, spelled, AllFit, Fits, IsSmall, IsSpellable, IsSpellablePlan};
 
 use crate::fitting::{
     bind_fits, close_fits, complete_fits, create_file_fits, create_session_fits,
@@ -19,7 +19,9 @@ use std::alloc::Global;
 
 /// NFS (RFC 5531, section 13; RFC 8881, section 16).
 const PROGRAM: u32 = 100003;
+
 const VERSION: u32 = 4;
+
 const COMPOUND: u32 = 1;
 
 /// AUTH_SYS (RFC 5531, section 8.2).
@@ -147,16 +149,26 @@ fn write_head(alloc: Global, w: &mut Writer, q: &Request) -> Result<(), NoMemory
     write_call(w, &call)
 }
 
-/// The bytes of a request: the call of a COMPOUND, by AUTH_SYS with the machine name `n41`, stamp 0 and no further gids. The tag is
-/// empty.
 #[tactic(auto, unfolding(crate::specs::Requests::spelled))]
-pub fn spell(alloc: Global, q: &Request) -> Result<Bytes, NoMemory>
-    requires { IsSpellable q.now }
+fn spell_whole(alloc: Global, q: &Request) -> Result<Bytes, NoMemory>
+    requires spellable { IsSpellable q.now }
+    requires fits { Fits q.now }
     ensures { IfOk result (λ bytes. bytes ≡ spelled q.now) }
 {
-    request_fits(q);
     let mut w = Writer::new(alloc);
     write_head(alloc, &mut w, q)?;
     write_body(alloc, &mut w, q)?;
     Ok(Bytes::from_vec(w.into_bytes())?)
+}
+
+/// The bytes of a request: the call of a COMPOUND, by AUTH_SYS with the machine name `n41`, stamp 0 and no further gids. The tag is
+/// empty.
+#[tactic(auto, using(crate::proofs::Small::is_short))]
+pub fn spell(alloc: Global, q: &Request) -> Result<Bytes, NoMemory>
+    requires { IsSpellable q.now }
+    ensures text { IfOk result (λ bytes. bytes ≡ spelled q.now) }
+    ensures small { IfOk result (λ bytes. IsSmall q.now.plan → length bytes ≤ 2000) }
+{
+    request_fits(q);
+    spell_whole(alloc, q)
 }
