@@ -15,4 +15,3 @@ pub use fault::InFault;
 pub use inlet::Inlet;
 pub use outlet::Outlet;
 pub use wire::Wire;
-

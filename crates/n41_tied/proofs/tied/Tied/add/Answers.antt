@@ -18,7 +18,7 @@ invariant_of-self c =
       owner = old.owner;
       kept = rw c.add.ensures kept;
       tied = rw c.add.ensures
-        (sym (view_steps c.self.inside.setup c.self.inside.journal.events c.args.event kept)
+          (sym (view_steps c.self.inside.setup c.self.inside.journal.events c.args.event kept)
           ∙ (ap (λ (w : View). step w c.args.event) old.tied
           ∙ (ap (λ e. step c.self.inside.tables e) (sym c.requires.copy) ∙ sym c.step.ensures)));
     }
