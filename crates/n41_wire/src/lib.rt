@@ -16,3 +16,6 @@ pub use inlet::Inlet;
 pub use outlet::Outlet;
 pub use wire::Wire;
 
+
+#[cfg(test)]
+mod tests;
