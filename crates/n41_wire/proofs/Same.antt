@@ -1,9 +1,9 @@
 -- An end is the same where its ear or its mouth is, and so it answers a fault again.
-use Rattle.std.proofs.Common.{◌≡◌, ◌≤◌, ap, sym, refl, subst, ◌∙◌, ℕ, List, length, take, flat_map, Some, None, Ok, Err, IfSome, Result}
+use Rattle.std.proofs.Common.{◌≡◌, ap, sym, subst, ◌∙◌, ℕ, List, length, take, flat_map, Some, None, Err, IfSome, Result}
 use Rattle.std.proofs.Props.{props}
 use Prim.{hlevel}
 use Rattle.std.specs.declared.option.Option.{Option}
-use Rattle.n41_link.specs.Ends.{ear_given, ear_fault, mouth_log, mouth_fault}
+use Rattle.n41_link.specs.Ends.{ear_given, mouth_log, mouth_fault}
 use Rattle.n41_link.specs.declared.connection.Inflow.{Ghosts as InGhosts}
 use Rattle.n41_link.specs.declared.connection.Outflow.{Ghosts as OutGhosts}
 use Rattle.n41_link.specs.declared.ear.Ear.{Ear}
@@ -48,11 +48,11 @@ pub same_outlet : {O P : Type 0} {g : OutGhosts O} {h : ParcelGhosts P} (o : Out
 same_outlet {O} {P} {g} {h} o m b w same =
     let whole_prop : IsProp (mouth_fault o.mouth ≡ None → mouth_log o.mouth ≡ flat_map marked o.posted.parts) = hlevel props in
     subst (λ (x : Mouth O g). (k : take (length (flat_map marked o.posted.parts)) (mouth_log x) ≡ flat_map marked o.posted.parts) (l : mouth_fault x ≡ None → mouth_log x ≡ flat_map marked o.posted.parts)
-        → let r : Outlet O P g h = record { mouth = x; posted = o.posted; of = o.of; begins = k; whole = l } in r ≡ o)
+    → let r : Outlet O P g h = record { mouth = x; posted = o.posted; of = o.of; begins = k; whole = l } in r ≡ o)
     (sym same)
     (λ k l.
-        ap (λ (z : take (length (flat_map marked o.posted.parts)) (mouth_log o.mouth) ≡ flat_map marked o.posted.parts). let r : Outlet O P g h = record { mouth = o.mouth; posted = o.posted; of = o.of; begins = z; whole = l } in r) (bytes_set _ _ k o.begins)
-        ∙ ap (λ (z : mouth_fault o.mouth ≡ None → mouth_log o.mouth ≡ flat_map marked o.posted.parts). let r : Outlet O P g h = record { mouth = o.mouth; posted = o.posted; of = o.of; begins = o.begins; whole = z } in r) (whole_prop l o.whole))
+    ap (λ (z : take (length (flat_map marked o.posted.parts)) (mouth_log o.mouth) ≡ flat_map marked o.posted.parts). let r : Outlet O P g h = record { mouth = o.mouth; posted = o.posted; of = o.of; begins = z; whole = l } in r) (bytes_set _ _ k o.begins)
+    ∙ ap (λ (z : mouth_fault o.mouth ≡ None → mouth_log o.mouth ≡ flat_map marked o.posted.parts). let r : Outlet O P g h = record { mouth = o.mouth; posted = o.posted; of = o.of; begins = o.begins; whole = z } in r) (whole_prop l o.whole))
     b w
 
 pub said_again : {X Y : Type 0} (fault : Option SayFault) (now was : Result (Unit {0}) SayFault) (a b : X) (x y : Y) → now ≡ was → (a ≡ b → x ≡ y)

@@ -27,12 +27,7 @@ pub struct Inlet<I: Inflow> {
 }
 
 // Reads the next record as a reply, and logs what came of it.
-fn take_record(
-    alloc: Global,
-    conn: u64,
-    log: &mut Log,
-    bytes: &[u8],
-) -> Result<Arrival, InFault>
+fn take_record(alloc: Global, conn: u64, log: &mut Log, bytes: &[u8]) -> Result<Arrival, InFault>
     requires { log.old.fault ≡ None }
     ensures takes { TakesRecord result conn bytes.now log.old.replies log.new.replies }
     ensures given { log.new.given ≡ log.old.given ++ bytes.now ∷ [] }

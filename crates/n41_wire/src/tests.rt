@@ -14,8 +14,7 @@ const BOTH: &[u8] =
     b"\x80\0\0\x20\0\0\0\x05\0\0\0\x01\0\0\0\0\0\0\0\0\0\0\0\0\0\0\0\x02\0\0\0\x03\0\0\0\x03\x80\0\0\x14\0\0\0\x06\0\0\0\x01\0\0\0\x01\0\0\0\x01\0\0\0\x0d";
 
 /// The denial alone, in two fragments.
-const DENIED: &[u8] =
-    b"\0\0\0\x08\0\0\0\x06\0\0\0\x01\x80\0\0\x0c\0\0\0\x01\0\0\0\x01\0\0\0\x0d";
+const DENIED: &[u8] = b"\0\0\0\x08\0\0\0\x06\0\0\0\x01\x80\0\0\x0c\0\0\0\x01\0\0\0\x01\0\0\0\x0d";
 
 /// A call of CB_NULL with xid 5, and the denial behind it.
 const CALLED: &[u8] =
@@ -40,7 +39,12 @@ fn words_of(alloc: Global, heard: Heard) -> Result<String, Fail> {
                 format!(in alloc; "{conn}.{place}: {} rejected {number}", reply.xid)?
             }
             ReplyBody::Results { status, list } => {
-                format!(in alloc; "{conn}.{place}: {} status {} of {}", reply.xid, status.0, list.len())?
+                format!(in alloc;
+                    "{conn}.{place}: {} status {} of {}",
+                    reply.xid,
+                    status.0,
+                    list.len()
+                )?
             }
         },
         Heard::Call { conn, place, call } => {
@@ -131,7 +135,10 @@ fn a_reply_comes_in_two_hundred_pieces(rt: HostRuntime) -> Result<(), Fail> {
     }
     let story = heard(alloc, &pieces, &[])?;
     assert_eq!(rt; pieces.len(), 200);
-    assert_eq!(rt; story.as_str(), "3.0: 9 status 0 of 0 (0), end (0), end (0), 200 on 3");
+    assert_eq!(rt;
+        story.as_str(),
+        "3.0: 9 status 0 of 0 (0), end (0), end (0), 200 on 3"
+    );
     Ok(())
 }
 
