@@ -1,9 +1,9 @@
 -- An end is the same where its ear or its mouth is, and so it answers a fault again.
-use Rattle.std.proofs.Common.{◌≡◌, ◌≤◌, ap, sym, refl, subst, ◌∙◌, ℕ, List, length, take, flat_map, Some, None, Ok, Err, IfSome, Result}
+use Rattle.std.proofs.Common.{◌≡◌, ap, sym, subst, ◌∙◌, ℕ, List, length, take, flat_map, Some, None, Err, IfSome, Result}
 use Rattle.std.proofs.Props.{props}
 use Prim.{hlevel}
 use Rattle.std.specs.declared.option.Option.{Option}
-use Rattle.n41_link.specs.Ends.{ear_given, ear_fault, mouth_log, mouth_fault}
+use Rattle.n41_link.specs.Ends.{ear_given, mouth_log, mouth_fault}
 use Rattle.n41_link.specs.declared.connection.Inflow.{Ghosts as InGhosts}
 use Rattle.n41_link.specs.declared.connection.Outflow.{Ghosts as OutGhosts}
 use Rattle.n41_link.specs.declared.ear.Ear.{Ear}

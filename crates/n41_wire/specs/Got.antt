@@ -5,7 +5,6 @@ use Rattle.n41_record.specs.Streams.{Refused}
 use Rattle.n41_link.specs.Heard.{GivesFirst, GaveAll, capped}
 use Rattle.n41_results.specs.declared.replies.Reply.{Reply}
 use Rattle.n41_replies.specs.Replies.{reply_at}
-use Rattle.n41_wire.specs.Logs.{Logged}
 use Rattle.n41_wire.specs.declared.arrival.Arrival.{Arrival}
 use Rattle.n41_wire.specs.declared.arrival.InGot.{InGot}
 use Rattle.n41_wire.specs.declared.arrival.InGot.TheVariants.{Came, Quiet, End}

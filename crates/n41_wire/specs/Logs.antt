@@ -1,6 +1,7 @@
 -- What the log of an inlet says: the records that its ear gave, and the replies that they were read as. (own)
 use Rattle.std.specs.Prelude.{◌≡◌, ℕ, List, [], ◌∷◌, ◌++◌, map, Some, None, Ok}
 use Rattle.std.specs.declared.option.Option.{Option}
+use Rattle.n41_record.specs.Streams.{BeginsWith}
 use Rattle.n41_results.specs.declared.replies.Reply.{Reply}
 use Rattle.n41_replies.specs.declared.fault.MsgFault.{MsgFault}
 use Rattle.n41_replies.specs.Faults.{Fails}
@@ -23,3 +24,7 @@ IsRead (Some fault) given replies = (before : List (List ℕ)) × (bytes : List 
 
 abbrev pub IsStanding : Logged → Type 0
 IsStanding l = IsRead l.fault l.given l.replies
+
+-- the bytes begin with records that are read as these replies
+abbrev pub StandFirst : List ℕ → List Reply → Type 0
+StandFirst bytes replies = (list : List (List ℕ)) × (rest : List ℕ) × BeginsWith bytes list rest × AreReadAs list replies

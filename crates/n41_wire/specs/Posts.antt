@@ -1,5 +1,5 @@
 -- What an outlet sends. (own)
-use Rattle.std.specs.Prelude.{◌≡◌, List, [], ◌∷◌, ◌++◌, ℕ, true, flat_map, Result, Ok, Err}
+use Rattle.std.specs.Prelude.{◌≡◌, List, [], ◌∷◌, ◌++◌, ℕ, true, Result, Ok, Err}
 use Rattle.n41_record.specs.Fragments.{fragment}
 use Rattle.n41_link.specs.declared.mouth.SayFault.{SayFault}
 use Rattle.n41_results.specs.declared.messages.Parts.{Parts}

@@ -4,6 +4,7 @@
 mod arrival;
 mod fault;
 mod inlet;
+mod laws;
 mod log;
 mod outlet;
 mod posted;
@@ -13,5 +14,9 @@ mod wire;
 pub use arrival::{Arrival, InGot};
 pub use fault::InFault;
 pub use inlet::Inlet;
+pub use laws::replies_stand_first;
 pub use outlet::Outlet;
 pub use wire::Wire;
+
+#[cfg(test)]
+mod tests;
