@@ -1,5 +1,5 @@
 -- What an inlet and an outlet keep.
-use Rattle.std.specs.Prelude.{ℕ, List}
+use Rattle.std.specs.Prelude.{◌≡◌, ℕ, List}
 use Rattle.std.specs.declared.option.Option.{Option}
 use Rattle.n41_record.specs.Gathered.{Gathered}
 use Rattle.n41_link.specs.Ends.{ear_gather, ear_log, ear_given, ear_inflow, ear_fault, ear_still, mouth_log, mouth_outflow, mouth_fault}
@@ -74,3 +74,14 @@ outlet_fault o = mouth_fault o.mouth
 -- what it writes to
 abbrev pub outlet_outflow : {O P : Type 0} {g : OutGhosts O} {h : ParcelGhosts P} → Outlet O P g h → O
 outlet_outflow o = mouth_outflow o.mouth
+
+-- all that it keeps is as it was
+pub record KeepsInlet {I : Type 0} {g : InGhosts I} (old new : Inlet I g) : Type 0 where
+  pub conn : inlet_conn new ≡ inlet_conn old
+  pub ear : inlet_ear new ≡ inlet_ear old
+  pub replies : inlet_replies new ≡ inlet_replies old
+  pub refused : inlet_refused new ≡ inlet_refused old
+
+pub record KeepsOutlet {O P : Type 0} {g : OutGhosts O} {h : ParcelGhosts P} (old new : Outlet O P g h) : Type 0 where
+  pub mouth : outlet_mouth new ≡ outlet_mouth old
+  pub sent : outlet_sent new ≡ outlet_sent old

@@ -48,7 +48,7 @@ fn take_record(alloc: Global, conn: u64, log: &mut Log, bytes: &[u8]) -> Result<
 }
 
 impl<I: Inflow> Inlet<I> {
-    ghost use Rattle.n41_wire.specs.Ends.{inlet_conn, inlet_ear, inlet_gather, inlet_log, inlet_given, inlet_replies, inlet_refused, inlet_fault, inlet_inflow, inlet_still};
+    ghost use Rattle.n41_wire.specs.Ends.{inlet_conn, inlet_ear, inlet_gather, inlet_log, inlet_given, inlet_replies, inlet_refused, inlet_fault, inlet_inflow, inlet_still, KeepsInlet};
 
     /// An inlet of the connection with this number, over an ear that has given nothing yet.
     pub fn new(conn: u64, ear: Ear<I>) -> Inlet<I>
@@ -105,7 +105,7 @@ impl<I: Inflow> Inlet<I> {
         ensures gets { inlet_fault self.old ≡ None → Gets result (inlet_conn self.old) (inlet_gather self.old) (inlet_gather self.new) (inlet_replies self.old) (inlet_replies self.new) }
         ensures stands { IsRead (inlet_refused self.new) (inlet_given self.new) (inlet_replies self.new) }
         ensures waits { 0 < length (inlet_gather self.old).waiting → (inlet_inflow self.new ≡ inlet_inflow self.old) × (inlet_log self.new ≡ inlet_log self.old) }
-        ensures again { IfSome (inlet_fault self.old) (λ fault. (result ≡ Err fault) × (self.new ≡ self.old)) }
+        ensures again { IfSome (inlet_fault self.old) (λ fault. (result ≡ Err fault) × KeepsInlet self.old self.new) }
         ensures kept { OnOk result (inlet_fault self.new ≡ None) }
         ensures fault { IfErr result (λ fault. inlet_fault self.new ≡ Some fault) }
         ensures stills { inlet_fault self.old ≡ None → Stills (inlet_log self.old) (inlet_log self.new) (inlet_still self.old) (inlet_still self.new) (in_quiet result) }

@@ -23,7 +23,7 @@ pub struct Outlet<O: Outflow, P: Parcel> {
 }
 
 impl<O: Outflow, P: Parcel> Outlet<O, P> {
-    ghost use Rattle.n41_wire.specs.Ends.{outlet_mouth, outlet_log, outlet_sent, outlet_fault, outlet_outflow};
+    ghost use Rattle.n41_wire.specs.Ends.{outlet_mouth, outlet_log, outlet_sent, outlet_fault, outlet_outflow, KeepsOutlet};
 
     /// An outlet over a mouth that has said nothing yet.
     pub fn new(mouth: Mouth<O>) -> Outlet<O, P>
@@ -51,7 +51,7 @@ impl<O: Outflow, P: Parcel> Outlet<O, P> {
         requires { length (P.parts parcel).body ≤ most_bytes }
         ensures says { outlet_fault self.old ≡ None → Says result (outlet_log self.old) (outlet_log self.new) (P.parts parcel).body }
         ensures sends { Sends result (outlet_sent self.old) (outlet_sent self.new) (P.parts parcel) }
-        ensures again { IfSome (outlet_fault self.old) (λ fault. (result ≡ Err fault) × (self.new ≡ self.old)) }
+        ensures again { IfSome (outlet_fault self.old) (λ fault. (result ≡ Err fault) × KeepsOutlet self.old self.new) }
         ensures kept { OnOk result (outlet_fault self.new ≡ None) }
         ensures fault { IfErr result (λ fault. outlet_fault self.new ≡ Some fault) }
         ensures cause { outlet_fault self.old ≡ None → Counts (O.faults (outlet_outflow self.old)) (O.faults (outlet_outflow self.new)) (failed_to_say result) }
