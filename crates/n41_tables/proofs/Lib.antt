@@ -1,0 +1,4 @@
+pub mod Places
+pub mod Others
+pub mod Soundness
+pub mod Moved

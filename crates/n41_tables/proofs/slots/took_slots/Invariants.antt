@@ -1,0 +1,7 @@
+use Rattle.std.proofs.Common.{◌≡◌}
+use Rattle.n41_view.specs.Step.{took_slot}
+use Rattle.n41_view.proofs.InPlace.{stepped}
+use Rattle.n41_tables.proofs.slots.took_slots.Given as goal
+
+abbrev pub invariant-loop-slot : goal.invariant-loop-slot
+invariant-loop-slot l = l.slots ≡ stepped (took_slot l.moment l.reply) l.slot-index l.initial.slots

@@ -1,0 +1,19 @@
+use Rattle.std.proofs.Common.{◌≡◌, ◌∙◌, refl, ap, add-one}
+use Rattle.n41_journal.specs.declared.events.Event.TheVariants.{DialFailed}
+use Rattle.n41_view.specs.View.{View}
+use Rattle.n41_view.specs.declared.tables.Facts.{Facts}
+use Rattle.n41_view.specs.Step.{step, counted}
+use Rattle.n41_tables.specs.Inside.{inside}
+use Rattle.n41_tables.proofs.Moved.{ready, parts}
+use Rattle.n41_tables.proofs.tables.Tables.dial_failed.Goals as goal
+
+pub invariant_of-self : goal.invariant_of-self
+invariant_of-self c =
+    ready c.self.inside (record { facts = c.counted.new.facts; bare = c.self.inside.bare; slots = c.self.inside.slots; seats = c.self.inside.seats }) (DialFailed) c.self.invariant
+    (parts c.counted.new.facts c.self.inside.bare c.self.inside.slots.items c.self.inside.seats.items (step (inside c.self.inside) (DialFailed)) (c.counted.ensures ∙ ap (λ (f : Facts). counted f) c.ended_round.ensures) refl refl refl)
+    c.self.invariant.room
+
+pub returns : goal.returns
+returns c =
+    parts c.counted.new.facts c.self.inside.bare c.self.inside.slots.items c.self.inside.seats.items (step (inside c.self.inside) (DialFailed)) (c.counted.ensures ∙ ap (λ (f : Facts). counted f) c.ended_round.ensures) refl refl refl
+    ∙ ap (λ (w : View). step w (DialFailed)) c.self.view_is

@@ -1,0 +1,163 @@
+ghost use Rattle.std.specs.Prelude.{◌≡◌, None, Some, [], option_copied, if◌then◌else◌};
+ghost use Rattle.n41_types.specs.declared.commands.Command.TheVariants as asks;
+ghost use Rattle.n41_model.specs.Requests.{slot_number};
+ghost use Rattle.n41_model.specs.Sessions.{passed};
+ghost use Rattle.n41_model.specs.Calls.{next_plan, is_plan, is_ready_call, in_running};
+ghost use Rattle.n41_view.specs.declared.tables.Facts.{Facts};
+ghost use Rattle.n41_view.specs.Step.{call_of, sooner_seat, wants, chosen_from, caller_in, is_new_in, held_at, new_owner};
+
+use crate::said::holds;
+use n41_model::Phase;
+use n41_types::{Command, Name, Place, Plan, Request};
+use n41_view::{Facts, Seat, Slot};
+
+/// The next plan of a stat: that of the root needs no walk.
+fn stat_plan(path: &[Name]) -> Option<Plan>
+    ensures { result ≡ next_plan (Some (asks.Stat path.now)) }
+{
+    match path {
+        [] => Some(Plan::Stat { at: Place::Root }),
+        _ => None,
+    }
+}
+
+/// The next plan of a command.
+fn next_plan(command: &Option<Command>) -> Option<Plan>
+    ensures { result ≡ next_plan command.now }
+{
+    match command {
+        Some(Command::Stat { path }) => stat_plan(path.as_slice()),
+        _ => None,
+    }
+}
+
+/// Whether a request with this plan is the command's next.
+fn is_plan(next: &Option<Plan>, plan: &Plan) -> bool
+    ensures { result ≡ is_plan next.now plan.now }
+{
+    match next {
+        None => false,
+        Some(next) => *next == *plan,
+    }
+}
+
+/// Whether two seconds have passed since then.
+fn passed(since: Option<u64>, moment: u64) -> bool
+    ensures { result ≡ passed since moment }
+{
+    match since {
+        None => true,
+        Some(since) => moment >= 2 && since <= moment - 2,
+    }
+}
+
+/// Whether the caller's command can go on: it has no answer yet, no request out, and is not in its two seconds.
+fn is_ready(moment: u64, seat: &Seat) -> bool
+    ensures { result ≡ is_ready_call moment seat.now.command (call_of seat.now) }
+{
+    match &seat.command {
+        None => false,
+        Some(_) => !seat.busy && seat.earned.is_none() && passed(seat.since, moment),
+    }
+}
+
+/// Whether the caller's command can go on, with this plan.
+fn wants(moment: u64, plan: &Plan, seat: &Seat) -> bool
+    ensures { result ≡ wants moment plan.now seat.now }
+{
+    if !is_ready(moment, seat) {
+        return false;
+    }
+    let next = next_plan(&seat.command);
+    is_plan(&next, plan)
+}
+
+/// Of two callers the one whose command began first.
+fn sooner_seat<'a>(best: Option<&'a Seat>, seat: &'a Seat) -> &'a Seat
+    ensures { result.now ≡ sooner_seat (option_copied best.entry) seat.now }
+{
+    match best {
+        None => seat,
+        Some(best) => if seat.began_at < best.began_at {
+            seat
+        } else {
+            best
+        },
+    }
+}
+
+/// The better of these for a request with this plan.
+fn better<'a>(
+    moment: u64,
+    plan: &Plan,
+    best: Option<&'a Seat>,
+    seat: &'a Seat,
+) -> Option<&'a Seat>
+    ensures { option_copied result ≡ (if wants moment plan.now seat.now then Some (sooner_seat (option_copied best.entry) seat.now) else option_copied best.entry) }
+{
+    if wants(moment, plan, seat) {
+        Some(sooner_seat(best, seat))
+    } else {
+        best
+    }
+}
+
+/// The caller, of these and the best of those before, whose command began first and wants this plan.
+fn chosen_from<'a>(
+    moment: u64,
+    plan: &Plan,
+    best: Option<&'a Seat>,
+    seats: &'a [Seat],
+) -> Option<&'a Seat>
+    ensures { option_copied result ≡ chosen_from moment plan.now (option_copied best.entry) seats.now }
+{
+    let mut best = best;
+    for seat in seats {
+        best = better(moment, plan, best, seat);
+    }
+    best
+}
+
+/// The number of a caller.
+fn caller_in(seat: Option<&Seat>) -> Option<u32>
+    ensures { result ≡ caller_in (option_copied seat.entry) }
+{
+    match seat {
+        None => None,
+        Some(seat) => Some(seat.caller),
+    }
+}
+
+/// Whether the request is not out yet on the slot that it is for.
+fn is_new(slots: &[Slot], request: &Request) -> bool
+    ensures { (f : Facts) → result ≡ is_new_in (record { facts = f; bare = None; slots = slots.now; seats = [] }) request.now (slot_number request.now.slot) }
+{
+    let Some(used) = request.slot else {
+        return true;
+    };
+    match slots.get(used.slot as usize) {
+        None => true,
+        Some(slot) => !holds(request.xid, slot.held.as_ref()),
+    }
+}
+
+/// The caller that a request with this plan is for: none outside phase Running.
+fn running_owner(facts: &Facts, seats: &[Seat], plan: &Plan) -> Option<u32>
+    ensures { result ≡ in_running facts.now.phase (caller_in (chosen_from facts.now.moment plan.now None seats.now)) }
+{
+    match facts.phase {
+        Phase::Running => caller_in(chosen_from(facts.moment, plan, None, seats)),
+        _ => None,
+    }
+}
+
+/// The caller whose a request is that is put; None where it is the client's own or was put before.
+pub fn new_owner(facts: &Facts, slots: &[Slot], seats: &[Seat], request: &Request) -> Option<u32>
+    ensures { result ≡ new_owner (record { facts = facts.now; bare = None; slots = slots.now; seats = seats.now }) request.now }
+{
+    if is_new(slots, request) {
+        running_owner(facts, seats, &request.plan)
+    } else {
+        None
+    }
+}

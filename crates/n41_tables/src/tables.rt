@@ -1,0 +1,279 @@
+ghost use Rattle.std.specs.Prelude.{◌≡◌, ◌+◌, ◌<◌, ◌^◌, suc, map, true, [], IfOk, option_copied};
+ghost use Rattle.n41_model.specs.Requests.{session_in};
+ghost use Rattle.n41_view.specs.View.{view};
+ghost use Rattle.n41_view.specs.Step.{step, counted, put_facts, took_facts, ended_round, dialed_facts, broke_facts, put_bare, took_bare, put_slot, took_slot, dialed_slot, broke_slot, slots_made, began_seat, put_seat, took_seat, answered_seat, new_owner, said};
+
+use crate::chosen::new_owner;
+use crate::facts::{broke_facts, counted, dialed_facts, ended_round, put_facts, took_facts};
+use crate::said::Said;
+use crate::seats::{answered_seats, began_seats, put_seats, took_seats};
+use crate::slots::{broke_slots, dialed_slots, put_request, slots_made, took_bare, took_slots};
+use n41_journal::Event;
+use n41_model::Phase;
+use n41_results::{CbCall, CbReply, Reply};
+use n41_types::{Answer, Command, NoMemory, Request};
+use n41_view::{Facts, PutOffs, Seat, Slot};
+use std::alloc::Global;
+use std::marker::Model;
+
+/// What a journal says, as tables. Contracts see them as a view.
+#[derive(Drop)]
+pub struct Tables {
+    facts: Facts,
+    bare: Option<Request>,
+    slots: Vec<Slot>,
+    seats: Vec<Seat>,
+}
+
+impl Model for Tables {
+    ghost use Rattle.n41_view.specs.View.{View};
+
+    ghost Value = { View };
+
+    ghost use Rattle.n41_tables.specs.Inside.{inside, IsReady};
+
+    ghost view = { inside };
+
+    ghost invariant = { IsReady };
+}
+
+/// The facts before the first event.
+fn no_facts() -> Facts
+    ensures { result ≡ (view 0 []).facts }
+{
+    Facts {
+        standing: None,
+        dials: 0,
+        puts: 0,
+        takes: 0,
+        moment: 0,
+        heard: false,
+        rounds: 0,
+        quit: false,
+        bound: false,
+        completed: false,
+        phase: Phase::Down,
+        work: Phase::ClientId,
+        session: None,
+        client: None,
+        slots: 0,
+        target: 0,
+        last_xid: 0,
+        bare_waits: false,
+        bare_put_at: 0,
+        put_off: PutOffs {
+            binding: None,
+            session: None,
+            client_id: None,
+            completing: None,
+        },
+        breach_at: None,
+        events: 0,
+    }
+}
+
+/// So many callers that have given no command.
+fn new_seats(alloc: Global, callers: u32) -> Result<Vec<Seat>, NoMemory>
+    ensures { IfOk result (λ seats. seats.items ≡ (view callers []).seats) }
+{
+    let mut seats = Vec::with_capacity(alloc, callers as usize)?;
+    for caller in 0..callers {
+        seats.push(Seat {
+            caller,
+            command: None,
+            number: 0,
+            began_at: 0,
+            busy: false,
+            since: None,
+            attempts: 0,
+            earned: None,
+        })?;
+    }
+    Ok(seats)
+}
+
+impl Tables {
+    /// The tables before the first event. There is room for 64 slots, so that a new session takes no memory.
+    pub fn new(alloc: Global, callers: u32) -> Result<Tables, NoMemory>
+        ensures { IfOk result (λ tables. tables ≡ view callers []) }
+    {
+        let slots = Vec::with_capacity(alloc, 64)?;
+        let seats = new_seats(alloc, callers)?;
+        Ok(Tables {
+            facts: no_facts(),
+            bare: None,
+            slots,
+            seats,
+        })
+    }
+
+    /// What is known of connections, moments, phases and sessions.
+    pub fn facts(&self) -> Facts
+        ensures { result ≡ self.now.facts }
+    {
+        self.facts
+    }
+
+    /// The request without a slot that is out.
+    pub fn bare(&self) -> Option<&Request>
+        ensures { option_copied result ≡ self.now.bare }
+    {
+        self.bare.as_ref()
+    }
+
+    /// The slots of the last session; slot n is the n-th.
+    pub fn slots(&self) -> &[Slot]
+        ensures { result.now ≡ self.now.slots }
+    {
+        self.slots.as_slice()
+    }
+
+    /// The callers; caller c is the c-th.
+    pub fn seats(&self) -> &[Seat]
+        ensures { result.now ≡ self.now.seats }
+    {
+        self.seats.as_slice()
+    }
+
+    /// A caller gave a command.
+    fn began(&mut self, caller: u32, number: u64, command: Command)
+        requires { self.old.facts.events + 1 < 2 ^ 64 }
+        ensures { self.new ≡ record self.old { facts = counted self.old.facts; seats = map (began_seat caller number command (suc self.old.facts.events)) self.old.seats } }
+    {
+        let place = self.facts.events + 1;
+        began_seats(caller, number, command, place, &mut self.seats);
+        counted(&mut self.facts);
+    }
+
+    /// A request was put.
+    fn put(&mut self, request: Request)
+        requires { self.old.facts.events + 1 < 2 ^ 64 }
+        ensures { self.new ≡ record { facts = counted (put_facts self.old request self.old.facts); bare = put_bare request self.old.bare; slots = map (put_slot self.old.facts.moment request (new_owner self.old request)) self.old.slots; seats = map (put_seat (new_owner self.old request)) self.old.seats } }
+    {
+        let owner = new_owner(&self.facts, &self.slots, &self.seats, &request);
+        let moment = self.facts.moment;
+        put_facts(&mut self.facts, self.bare.as_ref(), &self.slots, &request);
+        counted(&mut self.facts);
+        put_seats(owner, &mut self.seats);
+        put_request(moment, request, owner, &mut self.bare, &mut self.slots);
+    }
+
+    /// A reply was taken: what it says moves facts and seats, and then it ends what it answers.
+    fn took(&mut self, reply: Reply)
+        requires { self.old.facts.events + 1 < 2 ^ 64 }
+        ensures { self.new ≡ record { facts = counted (took_facts (said self.old reply) reply self.old.facts); bare = took_bare reply self.old.bare; slots = slots_made (session_in (said self.old reply).bare) (map (took_slot self.old.facts.moment reply) self.old.slots); seats = map (took_seat self.old.facts.moment (said self.old reply) reply) self.old.seats } }
+    {
+        let moment = self.facts.moment;
+        let said = Said::of(self.bare.as_ref(), &self.slots, &reply);
+        let made = said.made();
+        took_facts(&mut self.facts, &said, &reply);
+        counted(&mut self.facts);
+        took_seats(moment, &said, &reply, &mut self.seats);
+        took_slots(moment, &reply, &mut self.slots);
+        slots_made(made, &mut self.slots);
+        took_bare(&reply, &mut self.bare);
+        drop(reply);
+    }
+
+    /// A connection was made.
+    fn dialed(&mut self, conn: u64)
+        requires { self.old.facts.events + 1 < 2 ^ 64 }
+        ensures { self.new ≡ record self.old { facts = counted (dialed_facts conn self.old.facts); slots = map dialed_slot self.old.slots } }
+    {
+        dialed_facts(&mut self.facts, conn);
+        counted(&mut self.facts);
+        dialed_slots(&mut self.slots);
+    }
+
+    /// The connection broke.
+    fn broke(&mut self)
+        requires { self.old.facts.events + 1 < 2 ^ 64 }
+        ensures { self.new ≡ record self.old { facts = counted (broke_facts self.old.facts); slots = map broke_slot self.old.slots } }
+    {
+        broke_facts(&mut self.facts);
+        counted(&mut self.facts);
+        broke_slots(&mut self.slots);
+    }
+
+    /// A command was answered.
+    fn answered(&mut self, caller: u32, answer: Answer)
+        requires { self.old.facts.events + 1 < 2 ^ 64 }
+        ensures { self.new ≡ record self.old { facts = counted self.old.facts; seats = map (answered_seat caller) self.old.seats } }
+    {
+        drop(answer);
+        answered_seats(caller, &mut self.seats);
+        counted(&mut self.facts);
+    }
+
+    /// A callback was taken.
+    fn cb_took(&mut self, call: CbCall)
+        requires { self.old.facts.events + 1 < 2 ^ 64 }
+        ensures { self.new ≡ record self.old { facts = counted (record self.old.facts { takes = suc self.old.facts.takes }) } }
+    {
+        drop(call);
+        self.facts.takes += 1;
+        counted(&mut self.facts);
+    }
+
+    /// The reply to a callback was put.
+    fn cb_put(&mut self, reply: CbReply)
+        requires { self.old.facts.events + 1 < 2 ^ 64 }
+        ensures { self.new ≡ record self.old { facts = counted (record self.old.facts { puts = suc self.old.facts.puts }) } }
+    {
+        drop(reply);
+        self.facts.puts += 1;
+        counted(&mut self.facts);
+    }
+
+    /// No connection could be made.
+    fn dial_failed(&mut self)
+        requires { self.old.facts.events + 1 < 2 ^ 64 }
+        ensures { self.new ≡ record self.old { facts = counted (ended_round self.old.facts) } }
+    {
+        ended_round(&mut self.facts);
+        counted(&mut self.facts);
+    }
+
+    /// The clock showed this moment.
+    fn ticked(&mut self, moment: u64)
+        requires { self.old.facts.events + 1 < 2 ^ 64 }
+        ensures { self.new ≡ record self.old { facts = counted (record self.old.facts { moment = moment }) } }
+    {
+        self.facts.moment = moment;
+        counted(&mut self.facts);
+    }
+
+    /// No more commands come.
+    fn quit(&mut self)
+        requires { self.old.facts.events + 1 < 2 ^ 64 }
+        ensures { self.new ≡ record self.old { facts = counted (record self.old.facts { quit = true }) } }
+    {
+        self.facts.quit = true;
+        counted(&mut self.facts);
+    }
+
+    /// The tables after an event. It takes no memory.
+    pub fn step(&mut self, event: Event)
+        requires { self.old.facts.events + 1 < 2 ^ 64 }
+        ensures { self.new ≡ step self.old event }
+    {
+        match event {
+            Event::Began {
+                caller,
+                number,
+                command,
+                ..
+            } => self.began(caller, number, command),
+            Event::Put { request, .. } => self.put(request),
+            Event::Took { reply, .. } => self.took(reply),
+            Event::CbTook { call, .. } => self.cb_took(call),
+            Event::CbPut { reply, .. } => self.cb_put(reply),
+            Event::Dialed { conn } => self.dialed(conn),
+            Event::DialFailed => self.dial_failed(),
+            Event::Broke { .. } => self.broke(),
+            Event::Ticked { moment } => self.ticked(moment),
+            Event::Answered { caller, answer, .. } => self.answered(caller, answer),
+            Event::Quit => self.quit(),
+        }
+    }
+}
