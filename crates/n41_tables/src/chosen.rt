@@ -6,8 +6,8 @@ ghost use Rattle.n41_model.specs.Calls.{next_plan, is_plan, is_ready_call, in_ru
 ghost use Rattle.n41_view.specs.declared.tables.Facts.{Facts};
 ghost use Rattle.n41_view.specs.Step.{call_of, sooner_seat, wants, chosen_from, caller_in, is_new_in, held_at, new_owner};
 
-use crate::said::holds;
 use n41_model::Phase;
+use n41_said::holds;
 use n41_types::{Command, Name, Place, Plan, Request};
 use n41_view::{Facts, Seat, Slot};
 
@@ -87,12 +87,7 @@ fn sooner_seat<'a>(best: Option<&'a Seat>, seat: &'a Seat) -> &'a Seat
 }
 
 /// The better of these for a request with this plan.
-fn better<'a>(
-    moment: u64,
-    plan: &Plan,
-    best: Option<&'a Seat>,
-    seat: &'a Seat,
-) -> Option<&'a Seat>
+fn better<'a>(moment: u64, plan: &Plan, best: Option<&'a Seat>, seat: &'a Seat) -> Option<&'a Seat>
     ensures { option_copied result ≡ (if wants moment plan.now seat.now then Some (sooner_seat (option_copied best.entry) seat.now) else option_copied best.entry) }
 {
     if wants(moment, plan, seat) {

@@ -3,16 +3,13 @@ ghost use Rattle.n41_model.specs.Requests.{is_bare, is_bare_use};
 ghost use Rattle.n41_model.specs.Answers.{breaks};
 ghost use Rattle.n41_view.specs.Step.{put_put_off, put_put_offs, took_put_off, took_put_offs, put_facts, took_facts, ended_round, dialed_facts, broke_facts, counted};
 
-use crate::kept::{
-    bound_after, breaks, client_after, completed_after, completed_by, place_or, session_after,
-    session_in, slots_after, target_after, unbound_after,
-};
-use crate::phases::{
-    broke_phase, dialed_phase, is_step_of, is_step_said, puts_off, reply_phase, worked,
-};
-use crate::said::{Said, is_out};
 use n41_model::Phase;
 use n41_results::Reply;
+use n41_said::{
+    Said, bound_after, breaks, broke_phase, client_after, completed_after, completed_by,
+    dialed_phase, is_out, is_step_of, is_step_said, place_or, puts_off, reply_phase, session_after,
+    slots_after, target_after, unbound_after, worked,
+};
 use n41_types::{Plan, Request};
 use n41_view::{Facts, PutOffs, Slot};
 
@@ -103,7 +100,7 @@ pub(crate) fn took_facts(facts: &mut Facts, said: &Said, reply: &Reply)
     requires events { facts.old.events + 1 < 2 ^ 64 }
     ensures { facts.new ≡ took_facts said.now reply.now facts.old }
 {
-    let made = session_in(said.bare);
+    let made = said.made();
     let phase = reply_phase(said, facts.phase, facts.work);
     facts.takes += 1;
     facts.heard = true;

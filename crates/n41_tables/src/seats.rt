@@ -3,10 +3,9 @@ ghost use Rattle.n41_model.specs.Calls.{fresh_call, put_call, took_call, is_put_
 ghost use Rattle.n41_view.specs.Step.{with_call, call_of, began_seat, put_seat, took_seat, answered_seat};
 ghost use Rattle.n41_tables.specs.Sound.{IsPlaced, IsTried, seat_place};
 
-use crate::answers::{answer_in, attempts_after, is_put_off_by};
-use crate::said::Said;
 use n41_model::{Verdict, is_final};
 use n41_results::Reply;
+use n41_said::{Said, answer_in, attempts_after, is_put_off_by};
 use n41_types::Command;
 use n41_view::Seat;
 

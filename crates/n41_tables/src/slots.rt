@@ -4,9 +4,9 @@ ghost use Rattle.n41_view.specs.Step.{put_bare, took_bare, put_held, put_slot, t
 ghost use Rattle.n41_tables.specs.Sound.{IsPlaced, slot_place};
 
 use crate::facts::is_bare;
-use crate::said::{has, holds};
 use n41_model::{Sent, gives_back, is_final, sequence_status};
 use n41_results::{Reply, SessionMade};
+use n41_said::{has, holds};
 use n41_types::{Request, Status};
 use n41_view::{Held, Slot};
 

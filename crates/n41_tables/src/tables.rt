@@ -5,12 +5,12 @@ ghost use Rattle.n41_view.specs.Step.{step, counted, put_facts, took_facts, ende
 
 use crate::chosen::new_owner;
 use crate::facts::{broke_facts, counted, dialed_facts, ended_round, put_facts, took_facts};
-use crate::said::Said;
 use crate::seats::{answered_seats, began_seats, put_seats, took_seats};
 use crate::slots::{broke_slots, dialed_slots, put_request, slots_made, took_bare, took_slots};
 use n41_journal::Event;
 use n41_model::Phase;
 use n41_results::{CbCall, CbReply, Reply};
+use n41_said::Said;
 use n41_types::{Answer, Command, NoMemory, Request};
 use n41_view::{Facts, PutOffs, Seat, Slot};
 use std::alloc::Global;

@@ -7,5 +7,5 @@ invariant-loop-number l = record {
   items : new_slots 0 l.count ≡ l.slots.items ++ new_slots l.number (l.count - l.number);
   len : vec_len l.slots ≡ l.number;
   room : l.count ≤ vec_capacity l.slots;
-  capacity : vec_capacity l.fn.slots ≤ vec_capacity l.slots
+  capacity : vec_capacity l.fn.slots ≤ vec_capacity l.slots;
 }

@@ -1,5 +1,4 @@
 ghost use Rattle.std.specs.Prelude.{◌≡◌, option_copied};
-ghost use Rattle.n41_model.specs.Requests.{session_in};
 ghost use Rattle.n41_model.specs.Sessions.{raised, client_after, session_after, slots_after, bound_after, unbound_after, is_complete, completes, plan_in, completed_after, completed_by, target_in, target_after};
 ghost use Rattle.n41_model.specs.Answers.{breaks, place_or};
 
@@ -7,16 +6,6 @@ use crate::phases::completes;
 use n41_model::{BareVerdict, KnownClient, Verdict};
 use n41_results::{ReplyBody, Res, SessionMade};
 use n41_types::{Plan, Request};
-
-/// The session that a verdict brings.
-pub(crate) fn session_in(verdict: Option<BareVerdict>) -> Option<SessionMade>
-    ensures { result ≡ session_in verdict }
-{
-    match verdict {
-        Some(BareVerdict::Made(session)) => Some(session),
-        _ => None,
-    }
-}
 
 /// The same client id with the next sequence.
 fn raised(client: Option<KnownClient>) -> Option<KnownClient>
@@ -32,7 +21,7 @@ fn raised(client: Option<KnownClient>) -> Option<KnownClient>
 }
 
 /// The client id that is kept after a verdict.
-pub(crate) fn client_after(
+pub fn client_after(
     verdict: Option<BareVerdict>,
     client: Option<KnownClient>,
 ) -> Option<KnownClient>
@@ -50,10 +39,7 @@ pub(crate) fn client_after(
 }
 
 /// The session that is kept after a verdict.
-pub(crate) fn session_after(
-    verdict: Option<BareVerdict>,
-    kept: Option<SessionMade>,
-) -> Option<SessionMade>
+pub fn session_after(verdict: Option<BareVerdict>, kept: Option<SessionMade>) -> Option<SessionMade>
     ensures { result ≡ session_after verdict kept }
 {
     match verdict {
@@ -64,7 +50,7 @@ pub(crate) fn session_after(
 }
 
 /// How many slots the last session has, once this one was made.
-pub(crate) fn slots_after(made: Option<SessionMade>, slots: u32) -> u32
+pub fn slots_after(made: Option<SessionMade>, slots: u32) -> u32
     ensures { result ≡ slots_after made slots }
 {
     match made {
@@ -74,7 +60,7 @@ pub(crate) fn slots_after(made: Option<SessionMade>, slots: u32) -> u32
 }
 
 /// Whether the connection is bound after the verdict on a request without a slot.
-pub(crate) fn bound_after(verdict: Option<BareVerdict>, bound: bool) -> bool
+pub fn bound_after(verdict: Option<BareVerdict>, bound: bool) -> bool
     ensures { result ≡ bound_after verdict bound }
 {
     match verdict {
@@ -85,7 +71,7 @@ pub(crate) fn bound_after(verdict: Option<BareVerdict>, bound: bool) -> bool
 }
 
 /// Whether the connection is bound after the verdict on a request with a slot.
-pub(crate) fn unbound_after(verdict: Option<Verdict>, bound: bool) -> bool
+pub fn unbound_after(verdict: Option<Verdict>, bound: bool) -> bool
     ensures { result ≡ unbound_after verdict bound }
 {
     match verdict {
@@ -95,7 +81,7 @@ pub(crate) fn unbound_after(verdict: Option<Verdict>, bound: bool) -> bool
 }
 
 /// Whether RECLAIM_COMPLETE is done after the verdict on a request without a slot.
-pub(crate) fn completed_after(verdict: Option<BareVerdict>, completed: bool) -> bool
+pub fn completed_after(verdict: Option<BareVerdict>, completed: bool) -> bool
     ensures { result ≡ completed_after verdict completed }
 {
     match verdict {
@@ -115,11 +101,7 @@ fn is_complete(request: Option<&Request>) -> bool
 }
 
 /// Whether RECLAIM_COMPLETE is done after the verdict on a request with a slot.
-pub(crate) fn completed_by(
-    request: Option<&Request>,
-    verdict: Option<Verdict>,
-    completed: bool,
-) -> bool
+pub fn completed_by(request: Option<&Request>, verdict: Option<Verdict>, completed: bool) -> bool
     ensures { result ≡ completed_by (plan_in (option_copied request.entry)) verdict completed }
 {
     match verdict {
@@ -142,7 +124,7 @@ fn target_in(body: &ReplyBody, target: u32) -> u32
 }
 
 /// The highest slot that the server wants used after a reply.
-pub(crate) fn target_after(made: Option<SessionMade>, body: &ReplyBody, target: u32) -> u32
+pub fn target_after(made: Option<SessionMade>, body: &ReplyBody, target: u32) -> u32
     ensures { result ≡ target_after made body.now target }
 {
     match made {
@@ -152,7 +134,7 @@ pub(crate) fn target_after(made: Option<SessionMade>, body: &ReplyBody, target: 
 }
 
 /// Whether no server gives such a reply which keeps the rules.
-pub(crate) fn breaks(slot: Option<Verdict>, bare: Option<BareVerdict>) -> bool
+pub fn breaks(slot: Option<Verdict>, bare: Option<BareVerdict>) -> bool
     ensures { result ≡ breaks slot bare }
 {
     match (slot, bare) {
@@ -163,7 +145,7 @@ pub(crate) fn breaks(slot: Option<Verdict>, bare: Option<BareVerdict>) -> bool
 }
 
 /// The first place, or else the second.
-pub(crate) fn place_or(place: Option<u64>, other: Option<u64>) -> Option<u64>
+pub fn place_or(place: Option<u64>, other: Option<u64>) -> Option<u64>
     ensures { result ≡ place_or place other }
 {
     match place {

@@ -64,7 +64,7 @@ fn is_again(status: Status, attempts: u64) -> bool
 }
 
 /// The answer that a reply gives to the command of whose step it ended this attempt; None where it gives none yet.
-pub(crate) fn answer_in(
+pub fn answer_in(
     request: Option<&Request>,
     verdict: Option<Verdict>,
     attempts: u64,
@@ -88,7 +88,7 @@ pub(crate) fn answer_in(
 }
 
 /// Whether a verdict leads to a new attempt, two seconds later.
-pub(crate) fn is_put_off_by(verdict: Option<Verdict>, attempts: u64) -> bool
+pub fn is_put_off_by(verdict: Option<Verdict>, attempts: u64) -> bool
     ensures { result ≡ is_put_off_by verdict attempts }
 {
     match verdict {
@@ -98,7 +98,7 @@ pub(crate) fn is_put_off_by(verdict: Option<Verdict>, attempts: u64) -> bool
 }
 
 /// The attempts of a step, which are counted anew after an OK.
-pub(crate) fn attempts_after(verdict: Option<Verdict>, attempts: u64) -> u64
+pub fn attempts_after(verdict: Option<Verdict>, attempts: u64) -> u64
     ensures { result ≡ attempts_after verdict attempts }
 {
     match verdict {

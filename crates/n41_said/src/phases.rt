@@ -8,7 +8,7 @@ use n41_results::SessionMade;
 use n41_types::{Plan, Request, Status};
 
 /// The phase once a connection was made.
-pub(crate) fn dialed_phase(
+pub fn dialed_phase(
     phase: Phase,
     session: Option<SessionMade>,
     client: Option<KnownClient>,
@@ -26,7 +26,7 @@ pub(crate) fn dialed_phase(
 }
 
 /// The phase once the connection broke.
-pub(crate) fn broke_phase(phase: Phase) -> Phase
+pub fn broke_phase(phase: Phase) -> Phase
     ensures { result ≡ broke_phase phase }
 {
     match phase {
@@ -36,7 +36,7 @@ pub(crate) fn broke_phase(phase: Phase) -> Phase
 }
 
 /// The phase that the work goes back to once the connection is bound.
-pub(crate) fn worked(phase: Phase, work: Phase) -> Phase
+pub fn worked(phase: Phase, work: Phase) -> Phase
     ensures { result ≡ worked phase work }
 {
     match phase {
@@ -77,14 +77,18 @@ fn slot_phase(request: Option<&Request>, verdict: Option<Verdict>, phase: Phase)
         Some(Verdict::Breach) => Phase::Dead,
         Some(Verdict::Unbound) => Phase::Binding,
         Some(Verdict::Ran(_) | Verdict::TooBig(_)) => {
-            if is_lease_time(request) { Phase::Running } else { phase }
+            if is_lease_time(request) {
+                Phase::Running
+            } else {
+                phase
+            }
         }
         _ => phase,
     }
 }
 
 /// The phase after a reply. No reply leads out of Dead.
-pub(crate) fn reply_phase(said: &Said, phase: Phase, work: Phase) -> Phase
+pub fn reply_phase(said: &Said, phase: Phase, work: Phase) -> Phase
     ensures { result ≡ reply_phase said.now phase work }
 {
     match phase {
@@ -94,7 +98,7 @@ pub(crate) fn reply_phase(said: &Said, phase: Phase, work: Phase) -> Phase
 }
 
 /// Whether the plan is a request of the phase.
-pub(crate) fn is_step_of(phase: Phase, plan: &Plan) -> bool
+pub fn is_step_of(phase: Phase, plan: &Plan) -> bool
     ensures { result ≡ is_step_of phase plan.now }
 {
     match phase {
@@ -107,7 +111,7 @@ pub(crate) fn is_step_of(phase: Phase, plan: &Plan) -> bool
 }
 
 /// Whether the reply answers a request of the phase.
-pub(crate) fn is_step_said(phase: Phase, said: &Said) -> bool
+pub fn is_step_said(phase: Phase, said: &Said) -> bool
     ensures { result ≡ is_step_of phase said.now.plan }
 {
     match said.request {
@@ -117,7 +121,7 @@ pub(crate) fn is_step_said(phase: Phase, said: &Said) -> bool
 }
 
 /// Whether RECLAIM_COMPLETE is done by this status.
-pub(crate) fn completes(status: Status) -> bool
+pub fn completes(status: Status) -> bool
     ensures { result ≡ completes status }
 {
     status == Status::OK || status == Status::COMPLETE_ALREADY
@@ -142,7 +146,7 @@ fn is_refused_complete(verdict: Option<Verdict>) -> bool
 }
 
 /// Whether the reply puts off the request of a phase.
-pub(crate) fn puts_off(said: &Said) -> bool
+pub fn puts_off(said: &Said) -> bool
     ensures { result ≡ puts_off said.now }
 {
     is_bare_delay(said.bare) || is_refused_complete(said.slot)

@@ -12,10 +12,10 @@ use std::marker::Model;
 /// What a reply says: of the request without a slot, or of one on a slot; which request it answers, and whose that is.
 #[derive(Drop)]
 pub struct Said<'a> {
-    pub(crate) bare: Option<BareVerdict>,
-    pub(crate) slot: Option<Verdict>,
-    pub(crate) request: Option<&'a Request>,
-    pub(crate) owner: Option<u32>,
+    pub bare: Option<BareVerdict>,
+    pub slot: Option<Verdict>,
+    pub request: Option<&'a Request>,
+    pub owner: Option<u32>,
 }
 
 impl<'a> Model for Said<'a> {
