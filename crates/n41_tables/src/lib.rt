@@ -6,6 +6,8 @@ mod facts;
 mod seats;
 mod slots;
 mod tables;
+#[cfg(test)]
+mod tests;
 
 pub use chosen::new_owner;
 pub use tables::Tables;

@@ -97,7 +97,11 @@ fn counts_made(alloc: Global, slots: u32) -> Option<(usize, usize, u32, u64, u64
 
 #[test]
 fn a_session_brings_its_slots(rt: HostRuntime) {
-    for (slots, want) in [(1, (1, 2, 0, 0, 4)), (3, (3, 2, 2, 0, 4)), (100, (64, 2, 63, 0, 4))] {
+    for (slots, want) in [
+        (1, (1, 2, 0, 0, 4)),
+        (3, (3, 2, 2, 0, 4)),
+        (100, (64, 2, 63, 0, 4)),
+    ] {
         assert_eq!(rt; counts_made(rt.alloc(), slots), Some(want));
     }
 }
@@ -114,7 +118,11 @@ fn broken(alloc: Global) -> Option<(Phase, bool, u64)> {
             cause: Cause::Ended,
         },
     );
-    Some((tables.facts().phase, tables.bare().is_some(), tables.facts().rounds))
+    Some((
+        tables.facts().phase,
+        tables.bare().is_some(),
+        tables.facts().rounds,
+    ))
 }
 
 #[test]
