@@ -74,7 +74,7 @@ PlaceFault s c p f = ⊥
 
 pub record ShapeBreak (old new : State) (c p : ℕ) (y : Reply) (s : Shape) : Type 0 where
   pub next : IsNextIn old c p
-  pub cause : ShapeCause old.events y s
+  pub why : ShapeCause old.events y s
   pub broke : new ≡ appends old (Broke c cause.Garbled)
 
 -- a callback is no reply to anything that is awaited

@@ -1,4 +1,4 @@
-ghost use Rattle.std.specs.Prelude.{◌≡◌, ◌<◌, ◌≤◌, ◌^◌, [], replicate, length, slice_get, slice_index, option_copied, ℕ, IfOk, IfSome, IfNone, OnOk, OnErr};
+ghost use Rattle.std.specs.Prelude.{◌≡◌, ◌<◌, ◌≤◌, ◌^◌, [], length, slice_get, slice_index, option_copied, ℕ, suc, IfOk, IfSome, IfNone, OnOk, OnErr};
 ghost use Rattle.n41_model.specs.Kept.{Kept, May};
 ghost use Rattle.n41_view.specs.View.{view, facts_of};
 ghost use Rattle.n41_types.specs.declared.commands.Answer.{Answer as AnswerValue};
@@ -26,6 +26,7 @@ pub(crate) struct Books {
 }
 
 impl Model for Books {
+    ghost use Rattle.std.specs.Prelude.{◌≡◌};
     ghost use Rattle.n41_core.specs.Books.{Book};
     ghost use Rattle.n41_answers.specs.Answers.{lists};
 
@@ -40,6 +41,20 @@ fn seat_at(seats: &[Seat], caller: usize) -> Option<&Seat>
     ensures { option_copied result ≡ slice_get seats.now caller }
 {
     seats.get(caller)
+}
+
+/// A law: a number of 32 bits is less than 2^32.
+fn bounded(number: u32)
+    ensures { number < 2 ^ 32 }
+{
+    let _number = number;
+}
+
+/// The place of the next event.
+fn next_place(journal: &Journal) -> u64
+    ensures { result ≡ suc (length journal.now.events) }
+{
+    journal.as_slice().len() as u64 + 1
 }
 
 impl Books {
@@ -81,7 +96,7 @@ impl Books {
         ensures { result ≡ view self.now.setup.callers self.now.events }
     {
         let _callers = self.tied.setup().callers;
-        let _slots = facts.slots;
+        bounded(facts.slots);
         look(facts, self.tied.tables())
     }
 
@@ -156,7 +171,7 @@ impl Books {
     {
         the_lists_step();
         let copy = copied(&answer);
-        self.answers.note(caller, self.tied.journal().len() + 1);
+        self.answers.note(caller, next_place(self.tied.journal()));
         self.tied.add(
             Event::Answered {
                 caller,

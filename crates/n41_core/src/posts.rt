@@ -11,7 +11,7 @@ use n41_journal::Event;
 use n41_types::{Answer, Command, NoMemory};
 
 impl From<NoMemory> for PostFault {
-    ghost from_gives = { λ e. post.NoMemory };
+    ghost from_gives = { λ e f. f ≡ post.NoMemory };
 
     fn from(_: NoMemory) -> PostFault {
         PostFault::NoMemory

@@ -1,0 +1,8 @@
+use Rattle.n41_core.proofs.Commands.{idle_absent, idle_there}
+use Rattle.n41_core.proofs.client.Core.is_idle.Goals as goal
+
+pub returns-in-None : goal.returns-in-None
+returns-in-None c = rw (← c.self.view_is) (idle_absent c.self.inside.books.setup.callers c.self.inside.books.events c.args.caller c.in-None.ensures)
+
+pub returns-in-Some : goal.returns-in-Some
+returns-in-Some c = rw (c.is_none.ensures, ← c.self.view_is) (idle_there c.self.inside.books.setup.callers c.self.inside.books.events c.args.caller c.in-Some.seat.now c.in-Some.ensures)
