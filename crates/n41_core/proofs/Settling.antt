@@ -101,6 +101,7 @@ settled_began n js c i k m b h = λ d l. after d (began_waits (c == d) (command 
   before : (d : ℕ) → (command js d ≡ None) ⊎ Waits n js d → (command js d ≡ None) ⊎ ((call n js d).earned ≡ None)
   before d (inl e) = inl e
   before d (inr w) = inr w.unearned
+
   after : (d : ℕ) → (command (Began c i k m ∷ js) d ≡ None) ⊎ ((call n (Began c i k m ∷ js) d).earned ≡ None) → (command (Began c i k m ∷ js) d ≡ None) ⊎ Waits n (Began c i k m ∷ js) d
   after d (inl e) = inl e
   after d (inr e) = inr (record { unearned = e; unbroken = b })

@@ -56,12 +56,15 @@ wanted u js (want.Read c) d e k h = record {
   idle = λ i. sym (d u js i k) ∙ h.idle i;
   waits = h.waits;
 }
-wanted u js (want.Pause m) d e k h = (h.0, record {
-  runs = record { goes_on = sym (e u js k) ∙ h.1.runs.goes_on; stands = h.1.runs.stands };
-  idle = λ i. sym (d u js i k) ∙ h.1.idle i;
-  quiet = h.1.quiet;
-  waits = h.1.waits;
-})
+wanted u js (want.Pause m) d e k h = (
+  h.0,
+  record {
+    runs = record { goes_on = sym (e u js k) ∙ h.1.runs.goes_on; stands = h.1.runs.stands };
+    idle = λ i. sym (d u js i k) ∙ h.1.idle i;
+    quiet = h.1.quiet;
+    waits = h.1.waits;
+  },
+)
 wanted u js want.Nothing d e k h = sym (e u js k) ∙ h
 
 pub wants_by : (u : Setup) (js : List Event) (w : View) (a : Want) → w ≡ view u.callers js → DueFromView → EndFromView → Kept u js → WantIn u w a → WantCause u js a

@@ -14,12 +14,14 @@ pub(crate) fn copied(answer: &Answer) -> Answer
     ensures { result ≡ answer.now }
 {
     match answer {
-        Answer::Done(Value::Stat {
-            kind,
-            size,
-            fileid,
-            mode,
-        }) => Answer::Done(Value::Stat {
+        Answer::Done(
+            Value::Stat {
+                kind,
+                size,
+                fileid,
+                mode,
+            },
+        ) => Answer::Done(Value::Stat {
             kind: *kind,
             size: *size,
             fileid: *fileid,
