@@ -1,0 +1,7 @@
+pub mod Seats
+pub mod Light
+pub mod Settling
+pub mod Rounds
+pub mod Answered
+pub mod Told
+pub mod Commands

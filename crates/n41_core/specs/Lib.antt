@@ -1,0 +1,5 @@
+pub mod State
+pub mod Settled
+pub mod Books
+pub mod Causes
+pub mod Inside

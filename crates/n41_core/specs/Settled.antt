@@ -1,0 +1,38 @@
+-- No command is unanswered that has its answer.
+use Rattle.std.specs.Prelude.{◌≡◌, ◌⊎◌, ◌<◌, ℕ, List, Option, None}
+use Rattle.n41_types.specs.declared.commands.Answer.{Answer}
+use Rattle.n41_types.specs.declared.commands.Answer.TheVariants as answer
+use Rattle.n41_types.specs.declared.commands.Value.{Value}
+use Rattle.n41_types.specs.declared.commands.Value.TheVariants as value
+use Rattle.n41_journal.specs.declared.events.Event.{Event}
+use Rattle.n41_model.specs.Requests.{rounds}
+use Rattle.n41_model.specs.Calls.{command, call}
+use Rattle.n41_model.specs.Answers.{breach_at, round_limit}
+
+-- the last reply to the caller's command gives no answer, and no reply broke the rules
+pub record Waits (n : ℕ) (js : List Event) (c : ℕ) : Type 0 where
+  pub unearned : (call n js c).earned ≡ None
+  pub unbroken : breach_at js ≡ None
+
+-- each command that is unanswered still waits for its answer
+abbrev pub IsSettled : ℕ → List Event → Type 0
+IsSettled n js = (c : ℕ) → c < n → (command js c ≡ None) ⊎ Waits n js c
+
+-- and it may go on waiting: a reply came in the last rounds
+pub record GoesOn (n : ℕ) (js : List Event) (c : ℕ) : Type 0 where
+  pub waits : Waits n js c
+  pub reached : rounds js < round_limit
+
+-- the caller's command is answered, or goes on
+abbrev pub IsDone : ℕ → List Event → ℕ → Type 0
+IsDone n js c = (command js c ≡ None) ⊎ GoesOn n js c
+
+-- every command that is unanswered goes on
+abbrev pub IsDecided : ℕ → List Event → Type 0
+IsDecided n js = (c : ℕ) → c < n → IsDone n js c
+
+-- an answer that holds no memory
+abbrev pub IsLight : Answer → Type 0
+IsLight (answer.Done (value.Stat kind size fileid mode)) = Unit {0}
+IsLight (answer.Done x) = ⊥
+IsLight a = Unit {0}

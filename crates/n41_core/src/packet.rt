@@ -1,0 +1,29 @@
+ghost use Rattle.std.specs.Prelude.{◌≡◌};
+
+use n41_types::Request;
+use std::marker::Model;
+
+/// A request that was put, and is to be sent. Contracts see where it was put.
+#[derive(Drop)]
+pub struct Packet {
+    pub(crate) conn: u64,
+    pub(crate) place: u64,
+    pub(crate) request: Request,
+}
+
+impl Model for Packet {
+    ghost use Rattle.n41_core.specs.State.{Sent};
+
+    ghost Value = { Sent };
+
+    ghost view = { λ p. record { conn = p.conn; place = p.place; request = p.request } };
+}
+
+impl Packet {
+    /// The request.
+    pub fn request(&self) -> &Request
+        ensures { result.now ≡ self.now.request }
+    {
+        &self.request
+    }
+}
