@@ -1,5 +1,4 @@
-ghost use Rattle.std.specs.Prelude.{◌≡◌, ◌≤◌, length, IfOk};
-ghost use Rattle.n41_record.specs.Fragments.{most_bytes};
+ghost use Rattle.std.specs.Prelude.{◌≡◌, IfOk};
 
 use crate::{InFault, InGot, Inlet, Outlet, Wire};
 use n41_link::{Ear, Mouth, SayFault};
@@ -12,6 +11,12 @@ use std::test::Fail;
 /// PROG_MISMATCH for xid 5, and a denial by AUTH_ERROR for xid 6, each as one record.
 const BOTH: &[u8] =
     b"\x80\0\0\x20\0\0\0\x05\0\0\0\x01\0\0\0\0\0\0\0\0\0\0\0\0\0\0\0\x02\0\0\0\x03\0\0\0\x03\x80\0\0\x14\0\0\0\x06\0\0\0\x01\0\0\0\x01\0\0\0\x01\0\0\0\x0d";
+
+/// The first 20 bytes of these, and the others.
+const FRONT: &[u8] = b"\x80\0\0\x20\0\0\0\x05\0\0\0\x01\0\0\0\0\0\0\0\0";
+
+const BEHIND: &[u8] =
+    b"\0\0\0\0\0\0\0\x02\0\0\0\x03\0\0\0\x03\x80\0\0\x14\0\0\0\x06\0\0\0\x01\0\0\0\x01\0\0\0\x01\0\0\0\x0d";
 
 /// The denial alone, in two fragments.
 const DENIED: &[u8] = b"\0\0\0\x08\0\0\0\x06\0\0\0\x01\x80\0\0\x0c\0\0\0\x01\0\0\0\x01\0\0\0\x0d";
@@ -90,9 +95,9 @@ fn an_inlet_hears_replies_with_their_places(rt: HostRuntime) -> Result<(), Fail>
             &[],
             "3.0: 5 rejected 2 (0), 3.1: 6 denied 1 (0), 3.2: 6 denied 1 (0), 88 on 3",
         ),
-        (&[&BOTH[..20]], &[], "end (0), end (0), end (0), 20 on 3"),
+        (&[FRONT], &[], "end (0), end (0), end (0), 20 on 3"),
         (
-            &[&[], &BOTH[..20], &[], &BOTH[20..]],
+            &[&[], FRONT, &[], BEHIND],
             &[],
             "quiet (1), quiet (1), 3.0: 5 rejected 2 (0), 60 on 3",
         ),
