@@ -49,14 +49,29 @@ fn look() -> Request
     }
 }
 
+/// Whether these are the bytes of a request.
+fn is_spelled(alloc: Global, q: &Request, text: &[u8]) -> Result<bool, NoMemory>
+    requires { IsSpellable q.now }
+{
+    let bytes = spell(alloc, q)?;
+    Ok(bytes.as_slice() == text)
+}
+
+fn exchange_is_spelled(alloc: Global) -> Result<bool, NoMemory> {
+    let q = exchange(alloc)?;
+    is_spelled(alloc, &q, EXCHANGE)
+}
+
+fn look_is_spelled(alloc: Global) -> Result<bool, NoMemory> {
+    let q = look();
+    is_spelled(alloc, &q, LOOK)
+}
+
 #[test]
 fn requests_are_spelled(rt: HostRuntime) -> Result<(), Fail> {
-    let alloc = rt.alloc();
-    let first = exchange(alloc)?;
-    let bytes = spell(alloc, &first)?;
-    assert_eq!(rt; bytes.as_slice(), EXCHANGE);
-    let second = look();
-    let bytes = spell(alloc, &second)?;
-    assert_eq!(rt; bytes.as_slice(), LOOK);
+    let exchange = exchange_is_spelled(rt.alloc())?;
+    assert!(rt; exchange);
+    let look = look_is_spelled(rt.alloc())?;
+    assert!(rt; look);
     Ok(())
 }
