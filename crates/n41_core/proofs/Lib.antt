@@ -5,4 +5,3 @@ pub mod Rounds
 pub mod Answered
 pub mod Told
 pub mod Commands
-pub mod Spellable

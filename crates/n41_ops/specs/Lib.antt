@@ -1,5 +1,0 @@
-pub mod Openings
-pub mod Locks
-pub mod Sessions
-pub mod Files
-pub mod Results

@@ -1,2 +1,0 @@
-pub mod OpsLoop
-pub mod Spelled

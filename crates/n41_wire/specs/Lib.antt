@@ -1,5 +1,0 @@
-pub mod Ends
-pub mod Faults
-pub mod Got
-pub mod Logs
-pub mod Posts
