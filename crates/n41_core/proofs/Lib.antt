@@ -5,3 +5,4 @@ pub mod Rounds
 pub mod Answered
 pub mod Told
 pub mod Commands
+pub mod Spellable

@@ -74,6 +74,7 @@ impl Books {
     pub(crate) fn setup(&self) -> &Setup
         ensures setup { result.now ≡ self.now.setup }
         ensures callers { self.now.setup.callers ≤ 64 }
+        ensures owner { length self.now.setup.owner ≤ 1024 }
     {
         self.tied.setup()
     }

@@ -21,6 +21,7 @@ use std::marker::Model;
 /// The core of a client. Contracts see who it is and its journal, the newest event first.
 #[derive(Drop)]
 pub struct Core {
+    pub(crate) alloc: Global,
     pub(crate) books: Books,
 }
 
@@ -44,7 +45,7 @@ impl Core {
         ensures { IfOk result (λ c. c ≡ record { setup = setup; events = [] }) }
     {
         let books = Books::new(alloc, setup)?;
-        Ok(Core { books })
+        Ok(Core { alloc, books })
     }
 
     /// A law: its journal is one of a client that keeps its rules.
@@ -103,7 +104,7 @@ impl Core {
     pub fn into_journal(self) -> Journal
         ensures { result.events ≡ self.events }
     {
-        let Core { books } = self;
+        let Core { books, .. } = self;
         books.into_journal()
     }
 

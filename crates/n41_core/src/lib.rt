@@ -11,6 +11,8 @@ mod packet;
 mod posts;
 mod puts;
 mod takes;
+#[cfg(test)]
+mod tests;
 mod ticks;
 
 pub use client::Core;

@@ -2,18 +2,21 @@ ghost use Rattle.std.specs.Prelude.{◌≡◌, ◌≢◌, ◌⊎◌, ℕ, Some, 
 ghost use Rattle.n41_model.specs.declared.words.Item.{Item as ItemValue};
 ghost use Rattle.n41_model.specs.Due.{due, NothingDue};
 ghost use Rattle.n41_model.specs.Requests.{standing};
+ghost use Rattle.n41_requests.specs.Requests.{IsSpellable};
 ghost use Rattle.n41_core.specs.State.{HasPut};
 
 use crate::books::Books;
 use crate::client::Core;
 use crate::packet::Packet;
 use n41_journal::Event;
+use n41_requests::spell;
 use n41_types::{NoMemory, Request};
 use n41_view::the_view_tells_what_is_due;
 
 /// The request that is due and goes first.
 fn due_request(books: &Books) -> Result<Option<Request>, NoMemory>
     ensures some { IfOk result (λ o. IfSome o (λ r. (i : ItemValue) × (due books.now.setup books.now.events i ≡ Some r))) }
+    ensures spellable { IfOk result (λ o. IfSome o (λ r. IsSpellable r)) }
     ensures none { IfOk result (λ o. IfNone o (NothingDue books.now.setup books.now.events)) }
 {
     the_view_tells_what_is_due();
@@ -36,6 +39,7 @@ impl Core {
         let Some(request) = due_request(&self.books)? else {
             return Ok(None);
         };
+        let body = spell(self.alloc, &request)?;
         let kept = request.clone()?;
         let copy = request.clone()?;
         self.books.reserve(2)?;
@@ -56,6 +60,7 @@ impl Core {
             conn,
             place,
             request,
+            body,
         }))
     }
 }

@@ -1,0 +1,6 @@
+pub mod Lists
+pub mod Set
+pub mod Counts
+pub mod Lengths
+pub mod Asked
+pub mod Small

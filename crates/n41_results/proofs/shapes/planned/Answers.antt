@@ -1,8 +1,0 @@
-use Rattle.std.proofs.Common.{arith, ◌≡◌, refl, sym}
-use Rattle.n41_results.proofs.shapes.planned.Goals as goal
-
-pub returns-in-CreateFile : goal.returns-in-CreateFile
-returns-in-CreateFile c = rw c.in-CreateFile.is (cc)
-
-pub returns-in-Rename : goal.returns-in-Rename
-returns-in-Rename c = rw c.in-Rename.is (cc)

@@ -1,0 +1,2 @@
+pub mod OpsLoop
+pub mod Spelled
