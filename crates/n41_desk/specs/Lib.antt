@@ -5,4 +5,5 @@ pub mod Shown
 pub mod Lines
 pub mod Moments
 pub mod Steps
+pub mod Follows
 pub mod Desks

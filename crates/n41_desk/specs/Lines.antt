@@ -24,6 +24,10 @@ abbrev pub in_order : {W : Type 0} → List W → Option W → List W
 in_order ended None = ended
 in_order ended (Some w) = ended ++ w ∷ []
 
+-- these are all connections that the journal tells of, in the order of their numbers: each broke, but for the last where it stands
+abbrev pub AreWires : {I O P : Type 0} {g : InGhosts I} {h : OutGhosts O} {k : ParcelGhosts P} → List Event → List (Wire I O P g h k) → Type 0
+AreWires {I = I} {O = O} {P = P} {g = g} {h = h} {k = k} js ws = (ended : List (Wire I O P g h k)) × (wire : Option (Wire I O P g h k)) × HasLines js ended wire × (ws ≡ in_order ended wire)
+
 -- there is room to keep the one that stands among those that broke
 abbrev pub HasRoom : {W : Type 0} → Option W → ℕ → ℕ → Type 0
 HasRoom None len capacity = Unit {0}

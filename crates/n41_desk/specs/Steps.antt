@@ -1,5 +1,6 @@
 -- What a desk's turn adds to the journal. (own)
-use Rattle.std.specs.Prelude.{◌≡◌, ◌≢◌, ◌⊎◌, ℕ, suc, List, [], ◌∷◌, ◌++◌, Result, Ok, Err}
+use Rattle.std.specs.Prelude.{◌≡◌, ◌⊎◌, ℕ, suc, List, [], ◌∷◌, ◌++◌, Some, None}
+use Rattle.n41_types.specs.declared.commands.Command.{Command}
 use Rattle.n41_types.specs.declared.plans.Request.{Request}
 use Rattle.n41_results.specs.declared.replies.Reply.{Reply}
 use Rattle.n41_results.specs.declared.shapes.Shape.{Shape}
@@ -8,13 +9,17 @@ use Rattle.n41_journal.specs.declared.events.Cause.TheVariants as cause
 use Rattle.n41_journal.specs.declared.events.Event.{Event}
 use Rattle.n41_journal.specs.declared.events.Event.TheVariants.{Put, Took, Dialed, DialFailed, Broke, Answered}
 use Rattle.n41_model.specs.declared.words.Item.{Item}
+use Rattle.n41_model.specs.Calls.{number}
 use Rattle.n41_model.specs.Kept.{IsOld}
 use Rattle.n41_model.specs.Requests.{dials, moment}
 use Rattle.n41_due.specs.declared.wants.Want.{Want}
 use Rattle.n41_due.specs.declared.wants.Want.TheVariants as want
-use Rattle.n41_core.specs.Causes.{ShapeCause, WantCause}
+use Rattle.n41_core.specs.Causes.{ShapeCause, WantCause, post_fault}
 use Rattle.n41_core.specs.Settled.{IsDecided}
-use Rattle.n41_core.specs.State.{State, Sent, HasPut, TakesReply, ThenAnswers, appends, ticked}
+use Rattle.n41_core.specs.State.{State, Sent, HasPut, TakesReply, ThenAnswers, appends, posted, ticked}
+use Rattle.n41_core.specs.declared.faults.PostFault.{PostFault}
+use Rattle.n41_core.specs.declared.faults.PostFault.TheVariants as post
+use Rattle.n41_core.specs.declared.faults.Ticket.{Ticket}
 use Rattle.n41_desk.specs.declared.breaking.Fate.{Fate}
 use Rattle.n41_desk.specs.declared.breaking.Fate.TheVariants as fate
 use Rattle.n41_desk.specs.declared.turns.Turn.{Turn}
@@ -89,21 +94,40 @@ abbrev pub IsNothing : Want → Type 0
 IsNothing want.Nothing = Unit {0}
 IsNothing w = ⊥
 
--- It is idle exactly where nothing is wanted. Where memory is wanting, nothing was done.
-abbrev pub Turns : {E : Type 0} → State → State → Want → Result Turn E → Type 0
-Turns old new w (Ok Went) = (IsNothing w → ⊥) × Does old new w
-Turns old new w (Ok Idle) = IsNothing w × (new ≡ old)
-Turns old new w (Err e) = new ≡ old
+-- it is idle exactly where nothing is wanted
+abbrev pub Acts : State → State → Want → Turn → Type 0
+Acts old new w Went = (IsNothing w → ⊥) × Does old new w
+Acts old new w Idle = IsNothing w × (new ≡ old)
 
 -- the clock's moment was noted, commands were answered, and nothing else came
 pub record Notes (old new : State) (m : ℕ) (answers : List Event) : Type 0 where
   pub then_is : ThenAnswers old.setup (ticked m (moment old.events) old.events) new answers
   pub decided : IsDecided old.setup.callers new.events
 
+-- nothing came for want of memory, or the clock's moment was noted
+abbrev pub IsNoted : State → State → Type 0
+IsNoted old new = (new ≡ old) ⊎ ((m : ℕ) × (answers : List Event) × Notes old new m answers)
+
 -- one turn: the clock's moment was noted, and then what was wanted was done
-pub record TakesTurn {E : Type 0} (old new : State) (result : Result Turn E) : Type 0 where
+pub record TakesTurn (old new : State) (turn : Turn) : Type 0 where
   pub between : State
+  pub at : ℕ
+  pub answers : List Event
   pub wanted : Want
-  pub noted : (between ≡ old) ⊎ ((m : ℕ) × (answers : List Event) × Notes old between m answers)
+  pub noted : Notes old between at answers
   pub cause : WantCause between.setup between.events wanted
-  pub turns : Turns between new wanted result
+  pub acts : Acts between new wanted turn
+
+-- one command was given: the clock's moment was noted, and then the command began
+pub record Posts (old new : State) (caller : ℕ) (command : Command) (ticket : Ticket) : Type 0 where
+  pub between : State
+  pub at : ℕ
+  pub answers : List Event
+  pub noted : Notes old between at answers
+  pub free : post_fault between caller ≡ None
+  pub posted_is : new ≡ posted between caller command
+  pub ticket_is : ticket ≡ record { caller = caller; number = suc (number between.events caller) }
+
+-- why a command did not begin, memory apart
+abbrev pub PostCause : State → ℕ → PostFault → Type 0
+PostCause new caller f = (f ≡ post.NoMemory) ⊎ (post_fault new caller ≡ Some f)

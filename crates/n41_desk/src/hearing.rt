@@ -1,13 +1,13 @@
 // What is heard on the connection that stands.
-ghost use Rattle.std.specs.Prelude.{◌≡◌, ℕ, List, Some, None};
-ghost use Rattle.n41_journal.specs.declared.events.Event.{Event as EventValue};
+ghost use Rattle.std.specs.Prelude.{◌≡◌, Some, None};
 ghost use Rattle.n41_link.specs.Flow.{KnownAs};
 ghost use Rattle.n41_link.specs.Heard.{capped};
 ghost use Rattle.n41_model.specs.Requests.{standing, takes};
 ghost use Rattle.n41_wire.specs.Ends.{inlet_conn, inlet_log, inlet_replies, inlet_fault, inlet_inflow};
 ghost use Rattle.n41_wire.specs.Logs.{StandFirst};
 ghost use Rattle.n41_desk.specs.Shown.{Shows};
-ghost use Rattle.n41_desk.specs.Steps.{Adds, Reads, TakesOrBreaks};
+ghost use Rattle.n41_desk.specs.Steps.{Reads, TakesOrBreaks};
+ghost use Rattle.n41_desk.specs.Follows.{Follows, IsNextHere};
 ghost use Rattle.n41_desk.specs.Wires.{Carries, Fares};
 
 use crate::breaking::{Fate, break_off, break_old};
@@ -48,6 +48,23 @@ fn take(core: &mut Core, arrival: Arrival) -> Fate
     }
 }
 
+/// Does what follows from an inlet's answer: what came is taken, and each fault, the end and an old request break the connection.
+fn follow(core: &mut Core, conn: u64, got: Result<InGot, InFault>) -> Fate
+    requires stands { standing core.old.events ≡ Some conn }
+    requires next { IsNextHere got conn (takes core.old.events) }
+    ensures { Follows got result core.old core.new conn }
+{
+    match got {
+        Ok(InGot::Came(arrival)) => take(core, arrival),
+        Ok(InGot::Quiet) => break_old(core, conn),
+        Ok(InGot::End) => break_off(core, conn, Cause::Ended),
+        Err(InFault::Failed) => break_off(core, conn, Cause::Link),
+        Err(InFault::Gather(_)) => break_off(core, conn, Cause::BadRecord),
+        Err(InFault::Garbled(_)) => break_off(core, conn, Cause::Garbled),
+        Err(InFault::NoMemory) => break_off(core, conn, Cause::NoMemory),
+    }
+}
+
 /// Reads once from the connection that stands, and takes what came.
 pub(crate) fn hear<I: Inflow, O: Outflow>(
     alloc: Global,
@@ -57,16 +74,8 @@ pub(crate) fn hear<I: Inflow, O: Outflow>(
 ) -> Fate
     requires { Carries core.old.events conn wire.old }
     ensures fares { Fares result core.new.events conn wire.new }
-    ensures adds { (xs : List EventValue) × Adds core.old core.new conn xs }
     ensures reads { Reads core.old core.new conn }
 {
-    match listen(alloc, &mut wire.inlet) {
-        Ok(InGot::Came(arrival)) => take(core, arrival),
-        Ok(InGot::Quiet) => break_old(core, conn),
-        Ok(InGot::End) => break_off(core, conn, Cause::Ended),
-        Err(InFault::Failed) => break_off(core, conn, Cause::Link),
-        Err(InFault::Gather(_)) => break_off(core, conn, Cause::BadRecord),
-        Err(InFault::Garbled(_)) => break_off(core, conn, Cause::Garbled),
-        Err(InFault::NoMemory) => break_off(core, conn, Cause::NoMemory),
-    }
+    let got = listen(alloc, &mut wire.inlet);
+    follow(core, conn, got)
 }

@@ -6,6 +6,7 @@ mod desk;
 mod hearing;
 mod lines;
 mod saying;
+mod turning;
 mod turns;
 
 pub use desk::Desk;

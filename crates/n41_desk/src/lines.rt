@@ -8,7 +8,7 @@ ghost use Rattle.n41_model.specs.Requests.{standing, dials};
 ghost use Rattle.n41_core.specs.State.{appends};
 ghost use Rattle.n41_desk.specs.Lines.{HasLines, HasRoom, in_order};
 ghost use Rattle.n41_desk.specs.Moments.{CountsDials};
-ghost use Rattle.n41_desk.specs.Steps.{Adds, Dials, Reads, Sends};
+ghost use Rattle.n41_desk.specs.Steps.{Dials, Reads, Sends};
 ghost use Rattle.n41_desk.specs.Wires.{IsNew};
 
 use crate::breaking::Fate;
@@ -61,12 +61,22 @@ impl<I: Inflow + Drop, O: Outflow + Drop> Lines<I, O> {
         }
     }
 
+    /// The connections in order, the one that stands last.
+    pub(crate) fn into_wires(self) -> Vec<Wire<I, O, Packet>>
+        ensures { result.items ≡ in_order self.ended.items self.wire }
+    {
+        let Lines { mut ended, wire } = self;
+        if let Some(wire) = wire {
+            ended.push_reserved(wire);
+        }
+        ended
+    }
+
     /// Reads once from the connection that stands, and takes what came.
     pub(crate) fn read(&mut self, alloc: Global, core: &mut Core, conn: u64)
         requires lines { HasLines core.old.events self.old.ended.items self.old.wire }
         requires stands { standing core.old.events ≡ Some conn }
         ensures lines { HasLines core.new.events self.new.ended.items self.new.wire }
-        ensures adds { (xs : List EventValue) × Adds core.old core.new conn xs }
         ensures reads { Reads core.old core.new conn }
     {
         if let Some(mut wire) = self.wire.take() {
@@ -84,7 +94,6 @@ impl<I: Inflow + Drop, O: Outflow + Drop> Lines<I, O> {
         requires stands { standing core.old.events ≡ Some conn }
         requires wanted { (i : ItemValue) × IsSome (due core.old.setup core.old.events i) }
         ensures lines { HasLines core.new.events self.new.ended.items self.new.wire }
-        ensures adds { (xs : List EventValue) × Adds core.old core.new conn xs }
         ensures sends { OnOk result (Sends core.old core.new conn) }
         ensures err { OnErr result (core.new ≡ core.old) }
     {
