@@ -1,0 +1,6 @@
+mod Events
+mod Fates
+mod Small
+mod Heard
+mod Linked
+mod Noted

@@ -1,0 +1,15 @@
+-- What a desk holds.
+use Rattle.n41_link.specs.declared.connection.Dialer.{Ghosts as DialGhosts}
+use Rattle.n41_link.specs.declared.moments.Clock.{Ghosts as ClockGhosts}
+use Rattle.n41_core.specs.State.{State}
+use Rattle.n41_desk.specs.declared.desk.Desk.{Desk}
+
+-- the client's core
+abbrev pub desk_state : {D C : Type 0} {g : DialGhosts D} {h : ClockGhosts C} → Desk D C g h → State
+desk_state d = d.core
+
+abbrev pub desk_dialer : {D C : Type 0} {g : DialGhosts D} {h : ClockGhosts C} → Desk D C g h → D
+desk_dialer d = d.dialer
+
+abbrev pub desk_clock : {D C : Type 0} {g : DialGhosts D} {h : ClockGhosts C} → Desk D C g h → C
+desk_clock d = d.clock
