@@ -1,5 +1,5 @@
 -- The lines of a script, and the words of a line (own).
-use Rattle.std.specs.Prelude.{ℕ, ◌^◌, ◌==◌, ◌||◌, not, Bool, true, false, List, [], ◌∷◌, length, take, if◌then◌else◌, nat_lt}
+use Rattle.std.specs.Prelude.{ℕ, ◌+◌, ◌==◌, ◌||◌, not, Bool, true, false, List, [], ◌∷◌, length, take, if◌then◌else◌, nat_lt}
 use Rattle.std.specs.List.{list_any}
 
 -- with this byte in front of the first list

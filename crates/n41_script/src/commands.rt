@@ -1,7 +1,7 @@
 // The commands of callers.
 ghost use Rattle.std.specs.Prelude.{◌≡◌, [], IfOk};
 ghost use Rattle.n41_script.specs.Lines.{words};
-ghost use Rattle.n41_script.specs.Faults.{Gives};
+ghost use Rattle.n41_script.specs.Faults.{Gives, unless};
 ghost use Rattle.n41_script.specs.Commands.{ended, stat, command_of};
 
 use crate::fault::{LineFault, LineKind};
