@@ -1,0 +1,14 @@
+//! The reader of scripts: lines of commands, each of a caller.
+#![tactic(auto)]
+
+mod callers;
+mod commands;
+mod fault;
+mod lines;
+mod reading;
+mod script;
+mod words;
+
+pub use fault::{LineKind, ScriptFault};
+pub use reading::read_script;
+pub use script::{Lines, Script, ScriptLine};

@@ -1,0 +1,67 @@
+// The lines of a text, cut off one after another.
+ghost use Rattle.std.specs.Prelude.{◌≡◌, ◌==◌, ◌∷◌, ◌<◌, [], length, MatchOption};
+ghost use Rattle.std.specs.List.{position};
+ghost use Rattle.n41_script.specs.Lines.{lines, is_skipped, is_long, readable, to_last_space, line_limit};
+
+use crate::words::next_word;
+
+/// The bytes that a line may have.
+const LINE_LIMIT: usize = 140_000;
+
+/// The place of the first line end.
+fn end_of(text: &[u8]) -> Option<usize>
+    ensures { result ≡ position (λ b. b == 10) text.now }
+{
+    text.iter().position(|byte| *byte == b'\n')
+}
+
+/// The first line and what stands behind it. None where there is no line.
+pub(crate) fn next_line(text: &[u8]) -> Option<(&[u8], &[u8])>
+    ensures lines { MatchOption result (lines text.now ≡ []) (λ x. lines text.now ≡ x.0.now ∷ lines x.1.now) }
+    ensures less { MatchOption result (text.now ≡ []) (λ x. length x.1.now < length text.now) }
+{
+    if text.is_empty() {
+        return None;
+    }
+    match end_of(text) {
+        Some(place) => Some((&text[..place], &text[place + 1..])),
+        None => Some((text, &[])),
+    }
+}
+
+/// Whether a line says nothing.
+pub(crate) fn is_skipped(line: &[u8]) -> bool
+    ensures { result ≡ is_skipped line.now }
+{
+    match line {
+        [b'#', ..] => true,
+        _ => next_word(line).is_none(),
+    }
+}
+
+/// Whether a line has more bytes than one may have.
+pub(crate) fn is_long(line: &[u8]) -> bool
+    ensures { result ≡ is_long line.now }
+{
+    line.len() > LINE_LIMIT
+}
+
+/// What stands before the word at the end.
+fn to_last_space(text: &[u8]) -> &[u8]
+    ensures { result.now ≡ to_last_space text.now }
+{
+    match text.iter().rposition(|byte| *byte == b' ') {
+        Some(place) => &text[..place + 1],
+        None => &[],
+    }
+}
+
+/// The part of a line whose words are looked at.
+pub(crate) fn readable(line: &[u8]) -> &[u8]
+    ensures { result.now ≡ readable line.now }
+{
+    if is_long(line) {
+        return to_last_space(&line[..LINE_LIMIT + 1]);
+    }
+    line
+}

@@ -1,0 +1,186 @@
+// The lines of a script, read one after another.
+ghost use Rattle.std.specs.Prelude.{◌≡◌, ◌<◌, ◌∷◌, ◌++◌, [], length, IfOk, IfErr, OnOk};
+ghost use Rattle.n41_script.specs.Lines.{lines, words};
+ghost use Rattle.n41_script.specs.Callers.{caller_limit};
+ghost use Rattle.n41_script.specs.Faults.{Leaves, Numbers};
+ghost use Rattle.n41_script.specs.Scripts.{nothing, is_full, after_caller, after_words, after_line, said_by, IsOf, IsScript, IsLineFault, IsFault};
+
+use crate::callers::{is_caller, is_kept, place_of};
+use crate::commands::command_of;
+use crate::fault::{LineFault, LineKind, ScriptFault};
+use crate::lines::{is_long, is_skipped, next_line, readable};
+use crate::script::{Script, ScriptLine};
+use crate::words::{has_control, missing, next_word};
+use n41_types::{Bytes, Name, NoMemory, Sequence};
+use std::alloc::Global;
+use std::marker::Model;
+
+/// The bytes that a script may have.
+const SCRIPT_LIMIT: usize = 1 << 24;
+
+/// The callers that a script may have.
+const CALLER_LIMIT: usize = 64;
+
+/// The commands that a script may have.
+const COMMAND_LIMIT: usize = 100_000;
+
+/// What the lines so far say.
+#[derive(Drop)]
+struct Reading {
+    callers: Vec<Name>,
+    lines: Vec<ScriptLine>,
+}
+
+impl Model for Reading {
+    ghost use Rattle.std.specs.Prelude.{◌≤◌, vec_len};
+    ghost use Rattle.n41_script.specs.Callers.{caller_limit};
+    ghost use Rattle.n41_script.specs.Scripts.{Said};
+
+    ghost Value = { Said };
+
+    ghost view = { λ r. record { callers = r.callers.items; lines = r.lines.items } };
+
+    ghost invariant = { λ r. vec_len r.callers ≤ caller_limit };
+}
+
+impl Reading {
+    fn new(alloc: Global) -> Reading
+        ensures { result ≡ nothing }
+    {
+        Reading {
+            callers: Vec::new(alloc),
+            lines: Vec::new(alloc),
+        }
+    }
+
+    fn is_full(&self) -> bool
+        ensures { result ≡ is_full self.now }
+    {
+        self.lines.len() >= COMMAND_LIMIT
+    }
+
+    /// Adds a caller's name.
+    fn add_caller(&mut self, alloc: Global, word: &[u8]) -> Result<(), LineFault>
+        requires { length self.old.callers < caller_limit }
+        ensures { OnOk result (self.new ≡ record self.old { callers = self.old.callers ++ word.now ∷ [] }) }
+    {
+        // The form of a caller's name is that of a name, so only memory may be wanting.
+        match Name::of(alloc, word) {
+            Ok(name) => Ok(self.callers.push(name)?),
+            Err(_) => Err(LineFault::NoMemory),
+        }
+    }
+
+    /// The number of a caller, which is added where it is new.
+    fn number_of(&mut self, alloc: Global, word: &[u8]) -> Result<u32, LineFault>
+        ensures { Numbers result self.old self.new word.now }
+    {
+        if let Some(place) = place_of(self.callers.as_slice(), word) {
+            return Ok(place as u32);
+        }
+        let count = self.callers.len();
+        if count >= CALLER_LIMIT {
+            return Err(LineFault::Kind(LineKind::Limit));
+        }
+        self.add_caller(alloc, word)?;
+        Ok(count as u32)
+    }
+
+    /// Reads the command of a caller, from the words behind it.
+    fn take_command(
+        &mut self,
+        alloc: Global,
+        long: bool,
+        word: &[u8],
+        text: &[u8],
+    ) -> Result<(), LineFault>
+        ensures { Leaves result self.new (after_caller self.old long word.now (words text.now)) }
+    {
+        let caller = self.number_of(alloc, word)?;
+        let command = command_of(alloc, self.is_full(), long, text)?;
+        self.lines.push(ScriptLine { caller, command })?;
+        Ok(())
+    }
+
+    /// Reads the words of a line.
+    fn take_words(&mut self, alloc: Global, long: bool, text: &[u8]) -> Result<(), LineFault>
+        ensures { Leaves result self.new (after_words self.old long (words text.now)) }
+    {
+        let Some((word, rest)) = next_word(text) else {
+            return Err(LineFault::Kind(missing(long, LineKind::Caller)));
+        };
+        if has_control(word) {
+            return Err(LineFault::Kind(LineKind::Byte));
+        }
+        if is_kept(word) {
+            return Err(LineFault::Kind(LineKind::Command));
+        }
+        if !is_caller(word) {
+            return Err(LineFault::Kind(LineKind::Caller));
+        }
+        self.take_command(alloc, long, word, rest)
+    }
+
+    /// Reads a line.
+    fn take_line(&mut self, alloc: Global, line: &[u8]) -> Result<(), LineFault>
+        ensures { Leaves result self.new (after_line self.old line.now) }
+    {
+        if is_skipped(line) {
+            return Ok(());
+        }
+        self.take_words(alloc, is_long(line), readable(line))
+    }
+
+    /// The script that says so much.
+    fn into_script(self, alloc: Global) -> Result<Script, NoMemory>
+        ensures { IfOk result (λ s. IsOf self s) }
+    {
+        let owner = Bytes::copy_from_slice(alloc, b"n41")?;
+        let callers = Sequence::from_vec(alloc, self.callers)?;
+        let lines = Sequence::from_vec(alloc, self.lines)?;
+        Ok(Script {
+            uid: 1000,
+            gid: 1000,
+            owner,
+            callers,
+            lines,
+        })
+    }
+}
+
+/// Reads the lines of a text.
+fn read_lines(alloc: Global, text: &[u8]) -> Result<Reading, ScriptFault>
+    ensures ok { IfOk result (λ r. said_by (lines text.now) ≡ Ok r) }
+    ensures err { IfErr result (λ f. IsLineFault text.now f) }
+{
+    let mut reading = Reading::new(alloc);
+    let mut rest = text;
+    let mut number: u64 = 0;
+    while let Some((line, behind)) = next_line(rest) {
+        number += 1;
+        if let Err(fault) = reading.take_line(alloc, line) {
+            return Err(fault.at(number));
+        }
+        rest = behind;
+    }
+    Ok(reading)
+}
+
+/// What a text says as a script (own), or the number of its first line with a fault and the first fault of that line. A text above 16 MiB
+/// has the fault `Limit` at line 0.
+pub fn read_script(alloc: Global, text: &[u8]) -> Result<Script, ScriptFault>
+    ensures ok { IfOk result (λ s. IsScript text.now s) }
+    ensures err { IfErr result (λ f. IsFault text.now f) }
+{
+    if text.len() > SCRIPT_LIMIT {
+        return Err(ScriptFault::Line {
+            line: 0,
+            kind: LineKind::Limit,
+        });
+    }
+    let reading = read_lines(alloc, text)?;
+    match reading.into_script(alloc) {
+        Ok(script) => Ok(script),
+        Err(_) => Err(ScriptFault::NoMemory),
+    }
+}
