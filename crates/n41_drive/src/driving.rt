@@ -1,0 +1,117 @@
+// The loop over callers and turns.
+ghost use Rattle.std.specs.Prelude.{◌≡◌, ◌≢◌, ◌<◌, ◌≤◌, ℕ, [], length, slice_index, true, None, IfOk, OnOk, OnErr, IsTrue};
+ghost use Rattle.n41_model.specs.Calls.{command};
+ghost use Rattle.n41_model.specs.Requests.{quit};
+ghost use Rattle.n41_desk.specs.Desks.{desk_state, desk_dialer, desk_clock};
+ghost use Rattle.n41_desk.specs.Journals.{begun_by};
+ghost use Rattle.n41_desk.specs.Moments.{CountsDials};
+ghost use Rattle.n41_drive.specs.Drives.{AreBuilt, AreBegun, AreFound, HasBegun, HasBegunAll, QuitsLast, Driven, Begins};
+
+use crate::next::next_of;
+use n41_desk::{Desk, Turn};
+use n41_link::{Clock, Dialer};
+use n41_script::ScriptLine;
+use n41_types::NoMemory;
+use std::alloc::{AllocError, Global};
+use std::sync::Wait;
+
+/// Begins the next command of a caller, where it is idle and has one. True where it has none, and its last is answered.
+fn post_next<D: Dialer, C: Clock>(
+    desk: &mut Desk<D, C>,
+    caller: u32,
+    lines: &[ScriptLine],
+    place: &mut usize,
+) -> Result<bool, NoMemory>
+where
+    D::I: Drop,
+    D::O: Drop,
+    requires built { AreBuilt lines.now }
+    requires begun { HasBegun (desk_state desk.old).events lines.now caller place.old }
+    ensures begun { HasBegun (desk_state desk.new).events lines.now caller place.new }
+    ensures others { (c : ℕ) → c ≢ caller → begun_by (desk_state desk.new).events c ≡ begun_by (desk_state desk.old).events c }
+    ensures idle { IfOk result (λ done. IsTrue done → HasBegunAll (desk_state desk.new).events lines.now caller × (command (desk_state desk.new).events caller ≡ None)) }
+    ensures still { IfOk result (λ done. IsTrue done → desk.new ≡ desk.old) }
+    ensures quit { quit (desk_state desk.new).events ≡ quit (desk_state desk.old).events }
+    ensures setup { (desk_state desk.new).setup ≡ (desk_state desk.old).setup }
+    ensures dialer { desk_dialer desk.new ≡ desk_dialer desk.old }
+    ensures tells { C.tells (desk_clock desk.new) ≡ C.tells (desk_clock desk.old) }
+{
+    if !desk.is_idle(caller) {
+        return Ok(false);
+    }
+    let Some(next) = next_of(lines, *place, caller) else {
+        return Ok(true);
+    };
+    let command = lines[next].command.clone()?;
+    match desk.post(caller, command) {
+        Ok(_) => {
+            *place = next + 1;
+            Ok(false)
+        }
+        Err(_) => Err(AllocError),
+    }
+}
+
+/// Begins the next command of each caller that is idle and has one. True where none has one, and all are answered.
+fn post_all<D: Dialer, C: Clock>(
+    desk: &mut Desk<D, C>,
+    lines: &[ScriptLine],
+    places: &mut [usize],
+) -> Result<bool, NoMemory>
+where
+    D::I: Drop,
+    D::O: Drop,
+    requires built { AreBuilt lines.now }
+    requires few { length places.old < 2 ^ 32 }
+    requires begun { AreBegun (length places.old) (desk_state desk.old).events lines.now places.old }
+    ensures size { length places.new ≡ length places.old }
+    ensures begun { AreBegun (length places.new) (desk_state desk.new).events lines.now places.new }
+    ensures done { IfOk result (λ done. IsTrue done → AreFound (length places.new) (desk_state desk.new).events lines.now) }
+    ensures quit { quit (desk_state desk.new).events ≡ quit (desk_state desk.old).events }
+    ensures setup { (desk_state desk.new).setup ≡ (desk_state desk.old).setup }
+    ensures dialer { desk_dialer desk.new ≡ desk_dialer desk.old }
+    ensures tells { C.tells (desk_clock desk.new) ≡ C.tells (desk_clock desk.old) }
+{
+    let mut all_done = true;
+    let mut caller = 0;
+    while caller < places.len() {
+        let is_done = post_next(desk, caller as u32, lines, &mut places[caller])?;
+        all_done = all_done && is_done;
+        caller += 1;
+    }
+    Ok(all_done)
+}
+
+/// Works through the commands of a script: each of so many callers, from 0, begins its commands in their order, the next once the last is answered. When all
+/// are answered no more come. It returns when the desk is idle, or for want of memory.
+pub fn drive<R: Wait, D: Dialer, C: Clock>(
+    rt: &R,
+    alloc: Global,
+    desk: &mut Desk<D, C>,
+    addr: &str,
+    callers: u32,
+    lines: &[ScriptLine],
+) -> Result<(), NoMemory>
+where
+    D::I: Drop,
+    D::O: Drop,
+    requires all { callers ≡ (desk_state desk.old).setup.callers }
+    requires new { (desk_state desk.old).events ≡ [] }
+    requires built { AreBuilt lines.now }
+    ensures driven { OnOk result (Driven callers (desk_state desk.new).events lines.now) }
+    ensures begun { OnErr result (Begins callers (desk_state desk.new).events lines.now) }
+    ensures setup { (desk_state desk.new).setup ≡ (desk_state desk.old).setup }
+    ensures counts { CountsDials [] (desk_state desk.new).events (D.faults (desk_dialer desk.old)) (D.faults (desk_dialer desk.new)) }
+    ensures tells { C.tells (desk_clock desk.new) ≡ C.tells (desk_clock desk.old) }
+{
+    let mut places = vec![in alloc; 0usize; callers as usize]?;
+    for _ in rt.forever() {
+        if post_all(desk, lines, &mut places)? {
+            desk.finish()?;
+        }
+        if let Turn::Idle = desk.turn(alloc, addr)? {
+            return Ok(());
+        }
+    }
+    unreachable!()
+}
