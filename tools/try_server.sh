@@ -61,14 +61,16 @@ report() {
     fi
 }
 
-# probe NAME ADDR: runs the program; leaves NAME.out, NAME.err, NAME.status and NAME.memory (the most memory that it held, in KiB)
-probe() {
-    python3 - "$state/$1" "$program" probe "$2" <<'PYTHON'
+# start NAME INPUT WORDS: runs the program on the file INPUT; leaves NAME.out, NAME.err, NAME.status and NAME.memory (the most memory that it held, in KiB)
+start() {
+    local name=$1 input=$2
+    shift 2
+    python3 - "$state/$name" "$input" "$program" "$@" <<'PYTHON'
 import os, resource, subprocess, sys
-place, words = sys.argv[1], sys.argv[2:]
-with open(place + ".out", "wb") as out, open(place + ".err", "wb") as err:
+place, given, words = sys.argv[1], sys.argv[2], sys.argv[3:]
+with open(given, "rb") as stdin, open(place + ".out", "wb") as out, open(place + ".err", "wb") as err:
     try:
-        status = subprocess.run(words, stdin=subprocess.DEVNULL, stdout=out, stderr=err, timeout=80).returncode
+        status = subprocess.run(words, stdin=stdin, stdout=out, stderr=err, timeout=80).returncode
     except subprocess.TimeoutExpired:
         status = "no end"
 most = resource.getrusage(resource.RUSAGE_CHILDREN).ru_maxrss
@@ -78,7 +80,11 @@ for name, value in (("memory", most), ("status", status)):
 PYTHON
 }
 
-# expect NAME STATUS OUT ERR: compares what a probe left
+probe() {
+    start "$1" /dev/null probe "$2"
+}
+
+# expect NAME STATUS OUT ERR: compares what a run of the program left
 expect() {
     local place=$state/$1 status out err
     status=$(cat "$place.status")
@@ -140,6 +146,53 @@ try_server() {
     report "the server's ids" $? "status $(cat "$state/server.status"), printed '$line', fault '$(cat "$state/server.err")'"
 }
 
+# relay NAME EVERY: starts a relay to the server, which loses every so many records of the server, and waits for its port; what passed is in the folder NAME.wire
+relay() {
+    local turn
+    mkdir -p "$state/$1.wire"
+    # (it ends with its standard input, which nobody writes to)
+    tail -f /dev/null | python3 "$tools/relay.py" "$state/$1.port" "$server_port" "$2" "$state/$1.wire" 2>"$state/$1.peer" &
+    started+=($!)
+    for turn in $(seq 100); do
+        [ -f "$state/$1.port" ] && return 0
+        sleep 0.05
+    done
+    echo 1 >"$state/$1.port"
+}
+
+# The first answer of a stat of the root, as the server gives it.
+root="1 a stat type 2 size [0-9]+ fileid [0-9]+ mode 0[0-7]{3}"
+
+try_stat() {
+    relay stat 0
+    echo "a stat /" >"$state/stat.script"
+    start stat "$state/stat.script" run "127.0.0.1:$(cat "$state/stat.port")"
+    [ "$(cat "$state/stat.status")" = 0 ] && [ ! -s "$state/stat.err" ] && [[ $(cat "$state/stat.out") =~ ^$root$ ]]
+    report "a stat of the server's root" $? "status $(cat "$state/stat.status"), printed '$(cat "$state/stat.out")', fault '$(cat "$state/stat.err")'"
+}
+
+# dumped SIDE: dumps what one side of the stat's connection wrote
+dumped() {
+    start "dump-$1" "$state/stat.wire/$1" dump "$1"
+    [ "$(cat "$state/dump-$1.status")" = 0 ] && [ "$(tail -n 1 "$state/dump-$1.out")" = "rest 0" ] && ! grep -q " bad " "$state/dump-$1.out" &&
+        [ "$(wc -l <"$state/dump-$1.out")" -eq 8 ]
+    report "the dump of the $1" $? "status $(cat "$state/dump-$1.status"), printed '$(cat "$state/dump-$1.out")'"
+}
+
+# 64 callers with 50 commands each, while every 40th record of the server is lost with its connection
+try_many() {
+    local caller
+    relay many 40
+    for caller in $(seq 64); do
+        yes "c$caller stat /" | head -n 50
+    done >"$state/many.script"
+    start many "$state/many.script" run "127.0.0.1:$(cat "$state/many.port")"
+    [ "$(cat "$state/many.status")" = 0 ] && [ "$(grep -cE "^[0-9]+ c[0-9]+ stat type 2 " "$state/many.out")" -eq 3200 ] &&
+        [ "$(cat "$state/many.wire/cuts")" -gt 40 ]
+    report "64 callers through $(cat "$state/many.wire/cuts" 2>/dev/null) cuts" $? \
+        "status $(cat "$state/many.status"), $(wc -l <"$state/many.out") lines, fault '$(cat "$state/many.err")'"
+}
+
 try_nobody() {
     local begin end
     begin=$(date +%s%N)
@@ -161,6 +214,10 @@ silent_pid=$!
 started+=("$silent_pid")
 
 try_server
+try_stat
+dumped client
+dumped server
+try_many
 try_nobody
 answered_by answer answer
 expect answer 0 "$line" ""
