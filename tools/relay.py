@@ -4,7 +4,7 @@ usage: relay.py PORT_FILE SERVER_PORT EVERY FOLDER
 
 It listens on a free port, which it writes to PORT_FILE, and passes each connection on to the server. After each EVERY records of the server, all connections
 together, it cuts the connection in place of passing that record on (EVERY 0: never). What each side wrote is kept in FOLDER, as client and server, one
-connection after another, and the number of cuts in FOLDER/cuts. It ends when its standard input does.
+connection after another, and the number of cuts in FOLDER/cuts. It runs until it is ended.
 """
 
 import os
@@ -96,4 +96,4 @@ with open(port_file + ".new", "w") as file:
     file.write(str(listener.getsockname()[1]))
 os.replace(port_file + ".new", port_file)
 threading.Thread(target=serve, args=(listener,), daemon=True).start()
-sys.stdin.read()
+threading.Event().wait()

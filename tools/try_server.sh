@@ -150,8 +150,7 @@ try_server() {
 relay() {
     local turn
     mkdir -p "$state/$1.wire"
-    # (it ends with its standard input, which nobody writes to)
-    tail -f /dev/null | python3 "$tools/relay.py" "$state/$1.port" "$server_port" "$2" "$state/$1.wire" 2>"$state/$1.peer" &
+    python3 "$tools/relay.py" "$state/$1.port" "$server_port" "$2" "$state/$1.wire" 2>"$state/$1.peer" &
     started+=($!)
     for turn in $(seq 100); do
         [ -f "$state/$1.port" ] && return 0
