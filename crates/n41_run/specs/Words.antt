@@ -1,6 +1,10 @@
 -- What the words of the command line may be (own).
 use Rattle.std.specs.Prelude.{◌≡◌, ◌<◌, ◌≤◌, ◌+◌, ◌-◌, ℕ, List, [], ◌∷◌, ◌++◌, length, take, codes}
 use Rattle.std.specs.Fmt.{decimal}
+use Rattle.n41_run.specs.declared.side.Side.{Side}
+use Rattle.n41_run.specs.declared.side.Side.TheVariants.{Client, Server}
+use Rattle.n41_run.specs.declared.words.Verb.{Verb}
+use Rattle.n41_run.specs.declared.words.Verb.TheVariants.{Probe, Run, Dump}
 
 -- a port: the decimal numeral of a number from 1 to 65535
 pub record IsPort (bytes : List ℕ) : Type 0 where
@@ -17,15 +21,31 @@ pub record IsAddress (bytes : List ℕ) : Type 0 where
   pub lawful_port : IsPort port
   pub text : bytes ≡ host ++ (58 ∷ port)
 
--- probe ADDR
-pub record AsksProbe (words : List (List ℕ)) (address : List ℕ) : Type 0 where
-  pub lawful : IsAddress address
-  pub words_are : words ≡ codes "probe" ∷ (address ∷ [])
+abbrev pub verb_text : Verb → List ℕ
+verb_text Probe = codes "probe"
+verb_text Run = codes "run"
+verb_text Dump = codes "dump"
+
+abbrev pub side_text : Side → List ℕ
+side_text Client = codes "client"
+side_text Server = codes "server"
+
+-- a first word
+abbrev pub IsVerb : List ℕ → Type 0
+IsVerb word = (verb : Verb) × (word ≡ verb_text verb)
+
+-- what may stand behind it: probe ADDR, run ADDR, dump client, dump server
+abbrev pub IsOperand : Verb → List ℕ → Type 0
+IsOperand Probe word = IsAddress word
+IsOperand Run word = IsAddress word
+IsOperand Dump word = (side : Side) × (word ≡ side_text side)
 
 -- the words are one of the forms
 pub record IsForm (words : List (List ℕ)) : Type 0 where
-  pub address : List ℕ
-  pub probe : AsksProbe words address
+  pub verb : Verb
+  pub operand : List ℕ
+  pub fits : IsOperand verb operand
+  pub words_are : words ≡ verb_text verb ∷ (operand ∷ [])
 
 -- the words are the first of a form
 pub record BeginsForm (words : List (List ℕ)) : Type 0 where

@@ -6,6 +6,7 @@ mod fault;
 mod line;
 mod probing;
 mod running;
+pub mod side;
 mod sinking;
 mod talk;
 mod words;

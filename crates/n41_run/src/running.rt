@@ -63,6 +63,7 @@ fn act<K: Sink, D: Dialer, C: Clock>(
 {
     match command_of(words) {
         Ok(Command::Probe(addr)) => probe(alloc, addr, sink, dialer, clock),
+        Ok(_) => (8, Some(RunFault::NoMemory), None),
         Err(place) => {
             let fault = RunFault::Words(place);
             (fault.status(), Some(fault), None)

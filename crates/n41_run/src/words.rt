@@ -1,18 +1,50 @@
 ghost use Rattle.std.specs.Prelude.{◌≡◌, ◌<◌, ◌++◌, ◌∷◌, ◌↔◌, ℕ, codes, List, length, get_or, map, string_bytes, IsTrue, IsOk, IfOk, IfErr, IfSome, IfNone};
-ghost use Rattle.n41_run.specs.Words.{IsPort, IsAddress, AsksProbe, IsForm, IsFirstBad};
-ghost use Rattle.n41_run.specs.Asked.{address_of};
+ghost use Rattle.n41_run.specs.Words.{IsPort, IsAddress, IsVerb, IsOperand, IsForm, IsFirstBad, verb_text, side_text};
+ghost use Rattle.n41_run.specs.declared.side.Side.{Side as SideValue};
+ghost use Rattle.n41_run.specs.Asked.{Asks, Takes};
+
+use crate::side::Side;
 
 /// What the words ask for.
 #[derive(Debug, Drop)]
 pub enum Command<'a> {
     /// One exchange with the server at this address.
     Probe(&'a str),
+    /// The script on the input, run against the server at this address.
+    Run(&'a str),
+    /// A line for each record of the input, which this side of a connection wrote.
+    Dump(Side),
 }
 
-fn is_probe(word: &str) -> bool
-    ensures { IsTrue result ↔ (word.now ≡ codes "probe") }
+/// The first words.
+#[derive(Clone, Copy, PartialEq, Eq)]
+pub(crate) enum Verb {
+    Probe,
+    Run,
+    Dump,
+}
+
+fn verb_of(word: &str) -> Option<Verb>
+    ensures some { IfSome result (λ verb. word.now ≡ verb_text verb) }
+    ensures none { IfNone result (IsVerb word.now → ⊥) }
 {
-    word == "probe"
+    match word {
+        "probe" => Some(Verb::Probe),
+        "run" => Some(Verb::Run),
+        "dump" => Some(Verb::Dump),
+        _ => None,
+    }
+}
+
+fn side_of(word: &str) -> Option<Side>
+    ensures some { IfSome result (λ side. word.now ≡ side_text side) }
+    ensures none { IfNone result ((side : SideValue) → word.now ≡ side_text side → ⊥) }
+{
+    match word {
+        "client" => Some(Side::Client),
+        "server" => Some(Side::Server),
+        _ => None,
+    }
 }
 
 /// Whether the text is the decimal numeral of a port, without leading zeros.
@@ -43,26 +75,42 @@ fn is_address(text: &str) -> bool
     }
 }
 
+/// What a first word and the word behind it ask for. None exactly where that does not fit.
+fn command_with(verb: Verb, word: &str) -> Option<Command<'_>>
+    ensures some { IfSome result (λ command. Takes verb word.now command) }
+    ensures none { IfNone result (IsOperand verb word.now → ⊥) }
+{
+    match verb {
+        Verb::Probe if is_address(word) => Some(Command::Probe(word)),
+        Verb::Run if is_address(word) => Some(Command::Run(word)),
+        Verb::Dump => match side_of(word) {
+            Some(side) => Some(Command::Dump(side)),
+            None => None,
+        },
+        _ => None,
+    }
+}
+
 /// What the words ask for, or the place, from 1, of the first word that fits no form.
 pub fn command_of(words: &[String]) -> Result<Command<'_>, usize>
     ensures exact { IsOk result ↔ IsForm (map string_bytes words.now) }
-    ensures probe { IfOk result (λ command. AsksProbe (map string_bytes words.now) (address_of command)) }
+    ensures asks { IfOk result (λ command. Asks (map string_bytes words.now) command) }
     ensures bad { IfErr result (λ place. IsFirstBad (map string_bytes words.now) place) }
 {
     let Some((first, others)) = words.split_first() else {
         return Err(1);
     };
-    if !is_probe(first.as_str()) {
+    let Some(verb) = verb_of(first.as_str()) else {
         return Err(1);
-    }
-    let Some((address, more)) = others.split_first() else {
+    };
+    let Some((second, more)) = others.split_first() else {
         return Err(2);
     };
-    if !is_address(address.as_str()) {
+    let Some(command) = command_with(verb, second.as_str()) else {
         return Err(2);
-    }
+    };
     if !more.is_empty() {
         return Err(3);
     }
-    Ok(Command::Probe(address.as_str()))
+    Ok(command)
 }

@@ -1,49 +1,35 @@
-use Rattle.std.proofs.Common.{◌≡◌, ◌∷◌, ◌∙◌, [], List, ℕ, String, Global, map, string_bytes, ap, sym, arith, refl, codes, length, true, false}
+use Rattle.std.proofs.Common.{◌≡◌, ◌∷◌, ◌∙◌, [], List, ℕ, map, string_bytes, ap, sym, arith, length, true, false}
 use Rattle.std.proofs.lemmas.Bool.Decides.{nat_tests}
-use Rattle.n41_run.specs.Words.{IsAddress, IsFirstBad, AsksProbe}
-use Rattle.n41_run.proofs.Forms.{no_words, other_first, no_address_word, bad_address, third_word, bad_at, empty_is, joined, same_address, two_bad, more_bad, two_words}
+use Rattle.n41_run.specs.Words.{IsOperand, IsVerb, verb_text}
+use Rattle.n41_run.proofs.Forms.{no_words, other_first, no_operand, bad_operand, bad_at, empty_is, joined, two_texts, more_bad, taken_fits, same_fits}
 use Rattle.n41_run.proofs.words.command_of.Goals as goal
 
 pub returns-in_default-clause-bad : goal.returns-in_default-clause-bad
 returns-in_default-clause-bad c =
     bad_at _ [] 1 (ap (map string_bytes) (empty_is c.args.words.now c.in_default.ensures.cases)) no_words
 
-pub returns-then-not-is_probe-clause-bad : goal.returns-then-not-is_probe-clause-bad
-returns-then-not-is_probe-clause-bad c =
+pub returns-in_default-verb_of-clause-bad : goal.returns-in_default-verb_of-clause-bad
+returns-in_default-verb_of-clause-bad c =
     bad_at _ _ 1 (ap (map string_bytes) c.in-Some.ensures.cases.0)
-    (other_first _ _ (λ e. cc (c.is_probe.ensures.1 (c.as_str.ensures.value ∙ e), c.if-not-is_probe.true)))
+    (other_first _ _ (λ is. c.in_default-verb_of.ensures.none (is.0, c.as_str.ensures.value ∙ is.1)))
 
 pub returns-in_default-split_first-clause-bad : goal.returns-in_default-split_first-clause-bad
 returns-in_default-split_first-clause-bad c =
-    let first : string_bytes c.in-Some.first.now ≡ codes "probe" = sym c.as_str.ensures.value ∙ c.is_probe.ensures.0 c.if-not-is_probe.false in
+    let first : string_bytes c.in-Some.first.now ≡ verb_text c.in-Some-verb_of.verb = sym c.as_str.ensures.value ∙ c.in-Some-verb_of.ensures.some in
     let others : c.in-Some.others.now ≡ [] = empty_is c.in-Some.others.now c.in_default-split_first.ensures.cases in
-    bad_at _ (codes "probe" ∷ []) 2 (ap (map string_bytes) c.in-Some.ensures.cases.0 ∙ joined first (ap (map string_bytes) others)) no_address_word
+    bad_at _ (verb_text c.in-Some-verb_of.verb ∷ []) 2 (ap (map string_bytes) c.in-Some.ensures.cases.0 ∙ joined first (ap (map string_bytes) others)) (no_operand c.in-Some-verb_of.verb)
 
-pub returns-then-not-is_address-clause-bad : goal.returns-then-not-is_address-clause-bad
-returns-then-not-is_address-clause-bad c =
-    let first : string_bytes c.in-Some.first.now ≡ codes "probe" = sym c.as_str.ensures.value ∙ c.is_probe.ensures.0 c.if-not-is_probe.false in
-    let unlawful : IsAddress (string_bytes c.in-Some-split_first.address.now) → ⊥ =
-    λ lawful. cc (c.is_address.ensures.1 (same_address _ _ c.as_str-2.ensures.value lawful), c.if-not-is_address.true) in
-    two_bad _ _ _ _ _ 2 c.in-Some.ensures.cases.0 c.in-Some-split_first.ensures.cases.0 first (bad_address _ _ unlawful)
+pub returns-in_default-command_with-clause-bad : goal.returns-in_default-command_with-clause-bad
+returns-in_default-command_with-clause-bad c =
+    let v = c.in-Some-verb_of.verb in
+    let first : string_bytes c.in-Some.first.now ≡ verb_text v = sym c.as_str.ensures.value ∙ c.in-Some-verb_of.ensures.some in
+    bad_at _ _ 2 (two_texts _ _ _ _ _ v c.in-Some.ensures.cases.0 c.in-Some-split_first.ensures.cases.0 first)
+    (bad_operand v _ _ (λ fits. c.in_default-command_with.ensures.none (same_fits v _ _ (sym c.as_str-2.ensures.value) fits)))
 
 pub returns-then-not-is_empty-clause-bad : goal.returns-then-not-is_empty-clause-bad
 returns-then-not-is_empty-clause-bad c =
-    let first : string_bytes c.in-Some.first.now ≡ codes "probe" = sym c.as_str.ensures.value ∙ c.is_probe.ensures.0 c.if-not-is_probe.false in
-    let lawful : IsAddress (string_bytes c.in-Some-split_first.address.now) =
-    same_address _ _ (sym c.as_str-2.ensures.value) (c.is_address.ensures.0 c.if-not-is_address.false) in
-    two_bad _ _ _ _ _ 3 c.in-Some.ensures.cases.0 c.in-Some-split_first.ensures.cases.0 first
-    (more_bad (string_bytes c.in-Some-split_first.address.now) c.in-Some-split_first.more.now lawful (grind (arith, nat_tests)))
-
-pub returns-clause-probe : goal.returns-clause-probe
-returns-clause-probe c =
-    let first : string_bytes c.in-Some.first.now ≡ codes "probe" = sym c.as_str.ensures.value ∙ c.is_probe.ensures.0 c.if-not-is_probe.false in
-    let lawful : IsAddress c.as_str-3.result.now =
-    same_address _ _ (c.as_str-3.ensures.value ∙ sym c.as_str-2.ensures.value) (c.is_address.ensures.0 c.if-not-is_address.false) in
-    let no_more : c.in-Some-split_first.more.now ≡ [] = empty_is c.in-Some-split_first.more.now (grind (arith, nat_tests)) in
-    record {
-      lawful = lawful;
-      words_are = two_words _ _ _ _ _ c.in-Some.ensures.cases.0 c.in-Some-split_first.ensures.cases.0 first no_more ∙ ap (λ (a : List ℕ). codes "probe" ∷ (a ∷ [])) (sym c.as_str-3.ensures.value);
-    }
-
-pub returns-clause-exact : goal.returns-clause-exact
-returns-clause-exact c = (λ ok. record { address = c.as_str-3.result.now; probe = returns-clause-probe c }, λ form. refl)
+    let v = c.in-Some-verb_of.verb in
+    let first : string_bytes c.in-Some.first.now ≡ verb_text v = sym c.as_str.ensures.value ∙ c.in-Some-verb_of.ensures.some in
+    let fits : IsOperand v (string_bytes c.in-Some-split_first.second.now) = same_fits v _ _ c.as_str-2.ensures.value (taken_fits v _ _ c.in-Some-command_with.ensures.some) in
+    bad_at _ _ 3 (two_texts _ _ _ _ _ v c.in-Some.ensures.cases.0 c.in-Some-split_first.ensures.cases.0 first)
+    (more_bad v (string_bytes c.in-Some-split_first.second.now) c.in-Some-split_first.more.now fits (grind (arith, nat_tests)))

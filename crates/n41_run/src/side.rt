@@ -1,0 +1,6 @@
+/// The side of a connection that wrote a stream.
+#[derive(Clone, Copy, Debug, PartialEq, Eq)]
+pub enum Side {
+    Client,
+    Server,
+}
