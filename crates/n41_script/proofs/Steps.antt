@@ -1,9 +1,11 @@
 -- One line more is read.
 use Rattle.std.proofs.Common.{◌≡◌, ◌+◌, ℕ, zero, suc, List, [], ◌∷◌, ◌++◌, length, take, drop, slice_get, Result, Ok, Err, Some, None, arith, refl, ap, ◌∙◌, sym}
-use Rattle.std.proofs.lemmas.List.{take_all}
 use Rattle.n41_script.specs.declared.fault.LineKind.{LineKind}
+use Rattle.n41_script.specs.declared.fault.LineFault.{LineFault}
+use Rattle.n41_script.specs.declared.fault.LineFault.TheVariants.{Kind, NoMemory}
+use Rattle.n41_script.specs.Faults.{Leaves, at_line}
 use Rattle.n41_script.specs.Lines.{lines}
-use Rattle.n41_script.specs.Scripts.{Said, after_line, then_line, after_lines, said_by}
+use Rattle.n41_script.specs.Scripts.{Said, after_line, then_line, after_lines, said_by, IsLineFault}
 
 got : (xs : List (List ℕ)) (n : ℕ) (x : List ℕ) (ys : List (List ℕ)) → drop n xs ≡ x ∷ ys → slice_get xs n ≡ Some x
 got [] zero x ys e = absurd cc
@@ -36,8 +38,12 @@ said_more xs n m x ys s t f e h i =
 pub left_more : (xs : List (List ℕ)) (n m : ℕ) (x : List ℕ) (ys : List (List ℕ)) → m ≡ suc n → drop n xs ≡ x ∷ ys → drop m xs ≡ ys
 left_more xs n m x ys f e = left xs n m x ys f e
 
-pub line_there : (xs : List (List ℕ)) (n : ℕ) (x : List ℕ) (ys : List (List ℕ)) → drop n xs ≡ x ∷ ys → slice_get xs n ≡ Some x
-line_there xs n x ys e = got xs n x ys e
+-- the first line with a fault
+pub refused : (text : List ℕ) (n number : ℕ) (line : List ℕ) (ys : List (List ℕ)) (s t : Said) (f : LineFault) →
+    number ≡ suc n → drop n (lines text) ≡ line ∷ ys → said_by (take n (lines text)) ≡ Ok s → Leaves (Err f) t (after_line s line) → IsLineFault text (at_line number f)
+refused text n number line ys s t (Kind k) f e h i =
+    record { place = n; number_is = f; line = line; there = got (lines text) n line ys e; said = s; before = h; fault = i }
+refused text n number line ys s t NoMemory f e h i = tt
 
 -- where no line is left, all were taken
 pub all_taken : (xs : List (List ℕ)) (n : ℕ) → drop n xs ≡ [] → take n xs ≡ xs
