@@ -1,5 +1,5 @@
 // The answers of a journal, found by caller and number without a scan.
-ghost use Rattle.std.specs.Prelude.{◌≡◌, ◌∷◌, ℕ, ◌==◌, ◌&&◌, List, Some, None, if◌then◌else◌, IfOk, OnOk, option_copied};
+ghost use Rattle.std.specs.Prelude.{◌≡◌, ◌∷◌, ℕ, ◌==◌, ◌&&◌, reverse, List, Some, None, if◌then◌else◌, IfOk, OnOk, option_copied};
 ghost use Rattle.n41_report.specs.Found.{found, Finds};
 
 use n41_journal::{Event, Journal};
@@ -59,13 +59,20 @@ impl<'a> Found<'a> {
     }
 }
 
+/// The newest answers among events, of which the oldest comes first.
+fn found_in(alloc: Global, events: &[Event]) -> Result<Found<'_>, NoMemory>
+    ensures { IfOk result (λ f. Finds f (reverse events.now)) }
+{
+    let mut found = Found::new(alloc);
+    for event in events {
+        found.add(event)?;
+    }
+    Ok(found)
+}
+
 /// The newest answers of a journal.
 pub(crate) fn answers_in(alloc: Global, journal: &Journal) -> Result<Found<'_>, NoMemory>
     ensures { IfOk result (λ f. Finds f journal.now.events) }
 {
-    let mut found = Found::new(alloc);
-    for event in journal.as_slice() {
-        found.add(event)?;
-    }
-    Ok(found)
+    found_in(alloc, journal.as_slice())
 }

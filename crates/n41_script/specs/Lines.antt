@@ -1,6 +1,6 @@
 -- The lines of a script, and the words of a line (own).
-use Rattle.std.specs.Prelude.{ℕ, ◌+◌, ◌==◌, ◌||◌, not, Bool, true, false, List, [], ◌∷◌, length, take, if◌then◌else◌, nat_lt}
-use Rattle.std.specs.List.{list_any}
+use Rattle.std.specs.Prelude.{ℕ, ◌+◌, ◌-◌, ◌==◌, ◌||◌, not, Bool, true, false, List, [], ◌∷◌, length, take, if◌then◌else◌, nat_lt}
+use Rattle.std.specs.List.{suffix_len}
 
 -- with this byte in front of the first list
 abbrev pub onto_first : ℕ → List (List ℕ) → List (List ℕ)
@@ -44,10 +44,9 @@ line_limit = 140000
 abbrev pub is_long : List ℕ → Bool
 is_long line = nat_lt line_limit (length line)
 
--- what stands before the word at the end
+-- a line without the word at its end
 abbrev pub to_last_space : List ℕ → List ℕ
-to_last_space [] = []
-to_last_space (b ∷ text) = if list_any is_space (b ∷ text) then b ∷ to_last_space text else []
+to_last_space text = take (length text - suffix_len (λ b. not (is_space b)) text) text
 
 -- The part of a line whose words are looked at. A line that is too long has its fault at the first byte behind the limit, so there it is the
 -- words that end before that byte.

@@ -1,5 +1,6 @@
 // The names of callers.
-ghost use Rattle.std.specs.Prelude.{◌≡◌, IfOk, OnOk, OnErr};
+ghost use Rattle.std.specs.Prelude.{◌≡◌};
+ghost use Rattle.std.specs.List.{list_all};
 ghost use Rattle.n41_script.specs.Callers.{is_caller_byte, is_caller, is_kept, place};
 
 use crate::words::is_word;
@@ -11,11 +12,17 @@ fn is_caller_byte(byte: u8) -> bool
     matches!(byte, b'a'..=b'z' | b'0'..=b'9')
 }
 
+fn has_caller_bytes(word: &[u8]) -> bool
+    ensures { result ≡ list_all is_caller_byte word.now }
+{
+    word.iter().all(|byte| is_caller_byte(*byte))
+}
+
 /// Whether the word has the form of a caller's name.
 pub(crate) fn is_caller(word: &[u8]) -> bool
     ensures { result ≡ is_caller word.now }
 {
-    matches!(word.len(), 1..=16) && word.iter().all(|byte| is_caller_byte(*byte))
+    !word.is_empty() && word.len() <= 16 && has_caller_bytes(word)
 }
 
 /// Whether a line that begins with the word is of no caller.

@@ -7,6 +7,8 @@ mod fault;
 mod lines;
 mod reading;
 mod script;
+#[cfg(test)]
+mod tests;
 mod words;
 
 pub use fault::{LineKind, ScriptFault};

@@ -1,9 +1,9 @@
 // The lines of a text, cut off one after another.
-ghost use Rattle.std.specs.Prelude.{◌≡◌, ◌==◌, ◌∷◌, ◌<◌, [], length, MatchOption};
+ghost use Rattle.std.specs.Prelude.{◌≡◌, ◌==◌, ◌∷◌, ◌<◌, [], length, reverse, MatchOption};
 ghost use Rattle.std.specs.List.{position};
-ghost use Rattle.n41_script.specs.Lines.{lines, is_skipped, is_long, readable, to_last_space, line_limit};
+ghost use Rattle.n41_script.specs.Lines.{lines, is_skipped, is_long, readable, to_last_space, is_space};
 
-use crate::words::next_word;
+use crate::words::{next_word, rest_of};
 
 /// The bytes that a line may have.
 const LINE_LIMIT: usize = 140_000;
@@ -24,7 +24,10 @@ pub(crate) fn next_line(text: &[u8]) -> Option<(&[u8], &[u8])>
         return None;
     }
     match end_of(text) {
-        Some(place) => Some((&text[..place], &text[place + 1..])),
+        Some(place) => {
+            let behind = rest_of(text, place + 1);
+            Some((&text[..place], behind))
+        }
         None => Some((text, &[])),
     }
 }
@@ -46,12 +49,19 @@ pub(crate) fn is_long(line: &[u8]) -> bool
     line.len() > LINE_LIMIT
 }
 
-/// What stands before the word at the end.
+/// How many bytes stand behind the last space.
+fn behind_last_space(text: &[u8]) -> Option<usize>
+    ensures { result ≡ position is_space (reverse text.now) }
+{
+    text.iter().rev().position(|byte| *byte == b' ')
+}
+
+/// A line without the word at its end.
 fn to_last_space(text: &[u8]) -> &[u8]
     ensures { result.now ≡ to_last_space text.now }
 {
-    match text.iter().rposition(|byte| *byte == b' ') {
-        Some(place) => &text[..place + 1],
+    match behind_last_space(text) {
+        Some(count) => &text[..text.len() - count],
         None => &[],
     }
 }

@@ -62,7 +62,8 @@ impl Reading {
     /// Adds a caller's name.
     fn add_caller(&mut self, alloc: Global, word: &[u8]) -> Result<(), LineFault>
         requires { length self.old.callers < caller_limit }
-        ensures { OnOk result (self.new ≡ record self.old { callers = self.old.callers ++ word.now ∷ [] }) }
+        ensures ok { OnOk result (self.new ≡ record self.old { callers = self.old.callers ++ word.now ∷ [] }) }
+        ensures err { IfErr result (λ f. f ≡ LineFault.NoMemory) }
     {
         // The form of a caller's name is that of a name, so only memory may be wanting.
         match Name::of(alloc, word) {

@@ -1,10 +1,18 @@
 // The words of a line, cut off one after another.
-ghost use Rattle.std.specs.Prelude.{◌≡◌, ◌∷◌, [], not, length, MatchOption};
+ghost use Rattle.std.specs.Prelude.{◌≡◌, ◌≤◌, ◌∷◌, [], not, true, length, drop, MatchOption};
 ghost use Rattle.std.specs.List.{position};
-ghost use Rattle.n41_script.specs.Lines.{words, is_space};
+ghost use Rattle.n41_script.specs.Lines.{words, is_space, word_begins};
 ghost use Rattle.n41_script.specs.Words.{has_control, same, missing};
 
 use crate::fault::LineKind;
+
+/// The text from a place on.
+pub(crate) fn rest_of(text: &[u8], at: usize) -> &[u8]
+    requires { at ≤ length text.now }
+    ensures { result.now ≡ drop at text.now }
+{
+    &text[at..]
+}
 
 /// The place of the first byte of a word.
 fn word_at(text: &[u8]) -> Option<usize>
@@ -22,7 +30,7 @@ fn space_at(text: &[u8]) -> Option<usize>
 
 /// The word at the front, and what stands behind it.
 fn around_word(text: &[u8]) -> (&[u8], &[u8])
-    requires { position (λ b. not (is_space b)) text.now ≡ Some 0 }
+    requires { word_begins text.now ≡ true }
     ensures { words text.now ≡ result.0.now ∷ words result.1.now }
 {
     match space_at(text) {
@@ -35,8 +43,10 @@ fn around_word(text: &[u8]) -> (&[u8], &[u8])
 pub(crate) fn next_word(text: &[u8]) -> Option<(&[u8], &[u8])>
     ensures { MatchOption result (words text.now ≡ []) (λ x. words text.now ≡ x.0.now ∷ words x.1.now) }
 {
-    let place = word_at(text)?;
-    Some(around_word(&text[place..]))
+    match word_at(text) {
+        Some(place) => Some(around_word(rest_of(text, place))),
+        None => None,
+    }
 }
 
 /// Whether the word has a byte that stands in none.

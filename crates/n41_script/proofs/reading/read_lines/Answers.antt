@@ -1,0 +1,20 @@
+use Rattle.std.proofs.Common.{◌≡◌, ◌∙◌, sym, subst, arith}
+use Rattle.n41_script.specs.declared.fault.ScriptFault.{ScriptFault}
+use Rattle.n41_script.specs.Lines.{lines}
+use Rattle.n41_script.specs.Scripts.{IsLineFault}
+use Rattle.n41_script.proofs.Steps.{said_more, left_more, refused}
+use Rattle.n41_script.proofs.reading.read_lines.Goals as goal
+
+pub loop-line-preserved : goal.loop-line-preserved
+loop-line-preserved c =
+    let now = c.loop-line.invariant.left ∙ c.in-Some.ensures.lines in
+    record {
+      said = said_more (lines c.args.text.now) c.loop-line.number _ c.in-Some.line.now (lines c.in-Some.behind.now) c.loop-line.reading c.take_line.new.self (omega arith) now c.loop-line.invariant.said c.in_default-take_line.ensures;
+      left = left_more (lines c.args.text.now) c.loop-line.number _ c.in-Some.line.now (lines c.in-Some.behind.now) (omega arith) now;
+      within = omega (arith, c.loop-line.invariant.within, c.in-Some.ensures.less);
+    }
+
+pub returns-in-Err-clause-err : goal.returns-in-Err-clause-err
+returns-in-Err-clause-err c =
+    subst (λ (f : ScriptFault). IsLineFault c.args.text.now f) (sym c.at.ensures)
+    (refused c.args.text.now c.loop-line.number _ c.in-Some.line.now (lines c.in-Some.behind.now) c.loop-line.reading c.take_line.new.self c.in-Err.fault (omega arith) (c.loop-line.invariant.left ∙ c.in-Some.ensures.lines) c.loop-line.invariant.said c.in-Err.ensures)

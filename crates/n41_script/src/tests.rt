@@ -1,0 +1,185 @@
+use crate::{LineKind, ScriptFault, ScriptLine, read_script};
+use n41_types::{Command, Name, NoMemory};
+use std::alloc::Global;
+
+// A text: this one, and behind it one byte so many times.
+#[derive(Clone, Copy)]
+struct Filled<'a>(&'a [u8], u8, usize);
+
+fn text_of(alloc: Global, filled: Filled<'_>) -> Result<Vec<u8>, NoMemory> {
+    let fill = vec![in alloc; filled.1; filled.2]?;
+    let mut text = Vec::new(alloc);
+    text.extend_from_slice(filled.0)?;
+    text.extend_from_slice(&fill)?;
+    Ok(text)
+}
+
+fn repeated(alloc: Global, line: &[u8], times: usize) -> Result<Vec<u8>, NoMemory> {
+    let mut text = Vec::new(alloc);
+    for _ in 0..times {
+        text.extend_from_slice(line)?;
+    }
+    Ok(text)
+}
+
+fn fault_of(alloc: Global, text: &[u8]) -> Option<(u64, LineKind)> {
+    match read_script(alloc, text) {
+        Err(ScriptFault::Line { line, kind }) => Some((line, kind)),
+        _ => None,
+    }
+}
+
+fn is_read(alloc: Global, text: &[u8]) -> bool {
+    read_script(alloc, text).is_ok()
+}
+
+fn is_root(line: &ScriptLine) -> bool {
+    match &line.command {
+        Command::Stat { path } => path.len() == 0,
+        _ => false,
+    }
+}
+
+fn has_lines(lines: &[ScriptLine], callers: &[u32]) -> bool {
+    if lines.len() != callers.len() {
+        return false;
+    }
+    for (line, caller) in lines.iter().zip(callers) {
+        if line.caller != *caller || !is_root(line) {
+            return false;
+        }
+    }
+    true
+}
+
+fn has_names(names: &[Name], want: &[&[u8]]) -> bool {
+    if names.len() != want.len() {
+        return false;
+    }
+    for (name, other) in names.iter().zip(want) {
+        if name.as_slice() != *other {
+            return false;
+        }
+    }
+    true
+}
+
+// Whether the text says so: the names of its callers, and the caller of each line.
+fn says(alloc: Global, text: &[u8], names: &[&[u8]], callers: &[u32]) -> bool {
+    match read_script(alloc, text) {
+        Ok(script) => {
+            script.uid == 1000
+                && script.gid == 1000
+                && script.owner.as_slice() == b"n41".as_slice()
+                && has_names(script.callers.as_slice(), names)
+                && has_lines(script.lines.as_slice(), callers)
+        }
+        Err(_) => false,
+    }
+}
+
+#[test]
+fn scripts_are_read(rt: HostRuntime) {
+    let alloc = rt.alloc();
+    assert!(rt; says(alloc, b"", &[], &[]));
+    assert!(rt; says(alloc, b"\n   \n#\x01 plan\n#", &[], &[]));
+    assert!(rt; says(alloc, b"a stat /", &[b"a"], &[0]));
+    assert!(rt;
+        says(
+            alloc,
+            b"  b7  stat   / \nusers stat /\n\nb7 stat /\n",
+            &[b"b7", b"users"],
+            &[0, 1, 0]
+        )
+    );
+}
+
+#[test]
+fn lines_are_refused(rt: HostRuntime) {
+    let cases: [(&[u8], u64, LineKind); 22] = [
+        (b"\t", 1, LineKind::Byte),
+        (b"\n\na\x7f", 3, LineKind::Byte),
+        (b"a \x1fstat /", 1, LineKind::Byte),
+        (b"a stat \x00", 1, LineKind::Byte),
+        (b"a stat / \x0d\n", 1, LineKind::Byte),
+        (b" # stat /", 1, LineKind::Caller),
+        (b"A stat /", 1, LineKind::Caller),
+        (b"a-b", 1, LineKind::Caller),
+        (b"abcdefghijklmnopq stat /", 1, LineKind::Caller),
+        (b"plan on 1 OPEN break", 1, LineKind::Command),
+        (b"user 1 1", 1, LineKind::Command),
+        (b"owner x", 1, LineKind::Command),
+        (b"a stat /\n\na", 3, LineKind::Command),
+        (b"a creat \x01", 1, LineKind::Command),
+        (b"a list /", 1, LineKind::Command),
+        (b"a stat x", 1, LineKind::Command),
+        (b"a stat /a", 1, LineKind::Command),
+        (b"a stat /a//b", 1, LineKind::Command),
+        (b"a stat", 1, LineKind::Words),
+        (b"a stat / /", 1, LineKind::Words),
+        (b"a stat /\nb stat\nc", 2, LineKind::Words),
+        (b"a stat \x80", 1, LineKind::Command),
+    ];
+    for (text, line, kind) in cases {
+        assert_eq!(rt; fault_of(rt.alloc(), text), Some((line, kind)));
+    }
+}
+
+#[test]
+fn long_lines_are_refused(rt: HostRuntime) -> Result<(), NoMemory> {
+    let cases: [(Filled<'_>, Option<LineKind>); 12] = [
+        (Filled(b"a stat /", b' ', 139_992), None),
+        (Filled(b"a stat /", b' ', 139_993), Some(LineKind::Limit)),
+        (Filled(b"a stat", b' ', 139_994), Some(LineKind::Words)),
+        (Filled(b"a stat", b' ', 139_995), Some(LineKind::Limit)),
+        (Filled(b"a stat /", b'x', 139_992), Some(LineKind::Command)),
+        (Filled(b"a stat /", b'x', 139_993), Some(LineKind::Limit)),
+        (Filled(b"a stat / ", b'x', 139_991), Some(LineKind::Words)),
+        (Filled(b"a stat / ", b'x', 139_992), Some(LineKind::Limit)),
+        (Filled(b"a", b' ', 139_999), Some(LineKind::Command)),
+        (Filled(b"a", b' ', 140_000), Some(LineKind::Limit)),
+        (Filled(b"a lis", b' ', 140_000), Some(LineKind::Command)),
+        (Filled(b"#", b'x', 200_000), None),
+    ];
+    for (filled, want) in cases {
+        let text = text_of(rt.alloc(), filled)?;
+        assert_eq!(rt; fault_of(rt.alloc(), &text), want.map(|kind| (1, kind)));
+    }
+    Ok(())
+}
+
+#[test]
+fn a_long_text_is_refused(rt: HostRuntime) -> Result<(), NoMemory> {
+    let text = vec![in rt.alloc(); b' '; (1 << 24) + 1]?;
+    assert_eq!(rt; fault_of(rt.alloc(), &text), Some((0, LineKind::Limit)));
+    Ok(())
+}
+
+#[test]
+fn commands_are_counted(rt: HostRuntime) -> Result<(), NoMemory> {
+    let text = repeated(rt.alloc(), b"a stat /\n", 100_001)?;
+    assert_eq!(rt;
+        fault_of(rt.alloc(), &text),
+        Some((100_001, LineKind::Limit))
+    );
+    Ok(())
+}
+
+// A line of each of so many callers.
+fn of_callers(alloc: Global, count: u8) -> Result<Vec<u8>, NoMemory> {
+    let mut text = Vec::new(alloc);
+    for caller in 0..count {
+        text.push(b'a' + caller / 16)?;
+        text.push(b'a' + caller % 16)?;
+        text.extend_from_slice(b" stat /\n")?;
+    }
+    Ok(text)
+}
+
+#[test]
+fn callers_are_counted(rt: HostRuntime) -> Result<(), NoMemory> {
+    let text = of_callers(rt.alloc(), 65)?;
+    assert!(rt; is_read(rt.alloc(), &text[..640]));
+    assert_eq!(rt; fault_of(rt.alloc(), &text), Some((65, LineKind::Limit)));
+    Ok(())
+}
