@@ -1,7 +1,6 @@
 -- How far a dump is (own).
 use Rattle.std.specs.Prelude.{◌≡◌, ◌≤◌, ◌<◌, ◌+◌, ℕ, List, [], ◌++◌, length, take, Bool, true, false, Some, None, Result, Ok, Err}
 use Rattle.std.specs.declared.option.Option.{Option}
-use Rattle.std.specs.declared.alloc.AllocError.{AllocError}
 use Rattle.std.specs.Io.KnownBytes.{append_known, IsAtEnd}
 use Rattle.n41_record.specs.declared.fault.GatherFault.{GatherFault}
 use Rattle.n41_record.specs.Gathered.{Gathered, IsStanding}
@@ -35,7 +34,7 @@ pub record Stands (p : Printer) (stream : List ℕ) (start taken : Option (List 
   pub printed : IsPrinted p.broken start taken (lines p.side 1 p.gather.given)
 
 -- After a step all records that were given are printed again. Where memory ran out the dump had begun.
-abbrev pub Steps : {T : Type 0} → Result T AllocError → Printer → List ℕ → Option (List ℕ) → Option (List ℕ) → Type 0
+abbrev pub Steps : {T E : Type 0} → Result T E → Printer → List ℕ → Option (List ℕ) → Option (List ℕ) → Type 0
 Steps (Ok x) p stream start taken = Stands p stream start taken
 Steps (Err e) p stream start taken = BeginsDump p.side stream start taken
 

@@ -105,8 +105,11 @@ impl Printer {
         ensures same { (self.new.side ≡ self.old.side) × (self.new.gather.fault ≡ self.old.gather.fault) × (self.new.gather.fed ≡ self.old.gather.fed) }
         ensures raises { Raises self.old.broken self.new.broken (K.faults sink.old) (K.faults sink.new) }
     {
-        while self.print_next(sink)? {}
-        Ok(())
+        loop {
+            if !self.print_next(sink)? {
+                return Ok(());
+            }
+        }
     }
 
     // Feeds a piece, and prints the records that it makes whole.

@@ -23,7 +23,7 @@ fn see_dump(
 
 /// An answer with xid 1 to EXCHANGE_ID, with OK, client 7 and no name.
 const ANSWER: &[u8] =
-    b"\x80\0\0\x68\0\0\0\x01\0\0\0\x01\0\0\0\0\0\0\0\0\0\0\0\0\0\0\0\0\0\0\0\0\0\0\0\0\0\0\0\x01\0\0\0*\0\0\0\0\0\0\0\0\0\0\0\x07\0\0\0\x01\0\x01\0\0\0\0\0\0\0\0\0\0\0\0\0\0\0\0\0\x03srv\0\0\0\0\x03srv\0\0\0\0\0";
+    b"\x80\0\0\x5c\0\0\0\x01\0\0\0\x01\0\0\0\0\0\0\0\0\0\0\0\0\0\0\0\0\0\0\0\0\0\0\0\0\0\0\0\x01\0\0\0*\0\0\0\0\0\0\0\0\0\0\0\x07\0\0\0\x01\0\x01\0\0\0\0\0\0\0\0\0\0\0\0\0\0\0\0\0\x03srv\0\0\0\0\x03srv\0\0\0\0\0";
 
 #[test]
 fn records_are_printed(rt: HostRuntime) -> Result<(), Fail> {
@@ -89,7 +89,7 @@ fn a_record_of_too_many_fragments_stops(rt: HostRuntime) {
     let mut sink = SureSink::new(rt.alloc());
     let answer = dump_zeros(rt.alloc(), 16_777_216, &mut sink);
     assert!(rt; answer == Ok(()));
-    assert_eq!(rt; sink.bytes(), b"stop many\n");
+    assert_eq!(rt; sink.bytes(), b"stop many\n".as_slice());
 }
 
 #[test]
@@ -105,7 +105,7 @@ fn a_source_that_fails_is_told(rt: HostRuntime) -> Result<(), Fail> {
     let mut sink = SureSink::new(rt.alloc());
     let answer = dump(rt.alloc(), Side::Client, &mut source, &mut sink);
     assert!(rt; answer == Err(DumpFault::ReadFault));
-    assert_eq!(rt; sink.bytes(), b"1 bad -\n2 bad -\n");
+    assert_eq!(rt; sink.bytes(), b"1 bad -\n2 bad -\n".as_slice());
     Ok(())
 }
 
@@ -115,6 +115,6 @@ fn a_sink_that_fails_is_told(rt: HostRuntime) -> Result<(), Fail> {
     let mut sink = MemSink::new(rt.alloc(), &[2])?;
     let answer = dump(rt.alloc(), Side::Client, &mut source, &mut sink);
     assert!(rt; answer == Err(DumpFault::WriteFault));
-    assert_eq!(rt; sink.inner().bytes(), b"1 bad -\n");
+    assert_eq!(rt; sink.inner().bytes(), b"1 bad -\n".as_slice());
     Ok(())
 }
