@@ -1,6 +1,8 @@
 -- What was printed of a stream, as it goes on.
-use Rattle.std.proofs.Common.{◌≡◌, ◌≤◌, ◌<◌, ◌+◌, ◌*◌, ◌∙◌, ap, sym, subst, ℕ, suc, List, [], ◌∷◌, ◌++◌, length, arith, length-append, append_assoc, append-nil, refl, None, Some, Bool, true, false, inl}
-use Rattle.std.specs.Prelude.{IsSome}
+use Rattle.std.proofs.Common.{◌≡◌, ◌≤◌, ◌<◌, ◌+◌, ◌*◌, ◌∙◌, ap, sym, subst, ℕ, suc, List, [], ◌∷◌, ◌++◌, length, arith, length-append, append_assoc, append-nil, refl, take, drop, None, Some, Ok, Err, Result, Bool, true, false, inl}
+use Rattle.std.proofs.lemmas.List.{take-append-drop}
+use Rattle.std.specs.Result.{is_err}
+use Rattle.std.specs.Prelude.{IsSome, OnOk, OnErr}
 use Rattle.std.specs.List.{concat}
 use Rattle.std.specs.declared.option.Option.{Option}
 use Rattle.std.specs.Io.KnownBytes.{prepend_known, append_known}
@@ -18,8 +20,8 @@ use Rattle.n41_lines.specs.declared.last.Last.{Last}
 use Rattle.n41_lines.specs.declared.last.Last.TheVariants.{Rest, Long, Many}
 use Rattle.n41_lines.specs.Lines.{line}
 use Rattle.n41_dump.specs.declared.printer.Printer.{Printer}
-use Rattle.n41_dump.specs.Dumps.{lines, EndsAs, Gave, TookPart, BeginsDump}
-use Rattle.n41_dump.specs.Steps.{IsPrinted, Puts, IsFed, Stands, Raises, IsStarted}
+use Rattle.n41_dump.specs.Dumps.{lines, EndsAs, EndsIn, Dumps, Gave, TookPart, BeginsDump}
+use Rattle.n41_dump.specs.Steps.{IsPrinted, Puts, IsFed, Stands, Raises, IsStarted, Steps}
 use Rattle.n41_dump.proofs.Growing.{append_known-append}
 
 -- ---- texts
@@ -46,6 +48,12 @@ printed_more true true start old new text more p q = record {
   cut = ap (λ (t : List ℕ). t ++ more) p.cut ∙ append_assoc p.part p.more more;
   took = q.1 ∙ p.took;
 }
+
+-- a text was written, or a part of it
+pub put_text : {T E : Type 0} (broken is : Bool) (r : Result T E) (old new : Option (List ℕ)) (text : List ℕ) → broken ≡ false → is ≡ is_err r
+    → OnOk r (new ≡ append_known old text) → OnErr r ((n : ℕ) × (new ≡ append_known old (take n text))) → Puts broken is old new text
+put_text broken is (Ok x) old new text e1 e2 ok err = rw (e1, e2) ok
+put_text broken is (Err x) old new text e1 e2 ok err = rw (e1, e2) (record { part = take err.0 text; more = drop err.0 text; cut = sym (take-append-drop err.0 text); took = err.1 })
 
 pub as_part : (broken : Bool) (start taken : Option (List ℕ)) (text : List ℕ) → IsPrinted broken start taken text → TookPart start taken text
 as_part false start taken text p = record { part = text; more = []; cut = sym (append-nil text); took = p }
@@ -197,6 +205,27 @@ begun_more_given p g stream start taken b s given fed fault standing =
     begun p.side g stream start taken (rw (fault, fed) s.fed) standing
     (rw (given, lines_more p.side 1 p.gather.given b) (part_of_more start taken (lines p.side 1 p.gather.given) (line p.side (1 + length p.gather.given) b) (as_part p.broken start taken (lines p.side 1 p.gather.given) s.printed)))
 
+-- no more records are printed than bytes came
+pub number_bound : (p : Printer) (stream : List ℕ) (start taken : Option (List ℕ)) → Stands p stream start taken → p.number ≤ length stream
+number_bound p stream start taken s =
+    let first = given_first p.gather stream s.fed s.standing in
+    omega (arith, s.counted, begins_size stream p.gather.given first.0 first.1)
+
+-- a piece was fed
+pub stands_fed : (p q : Printer) (stream piece : List ℕ) (start taken : Option (List ℕ)) → Stands p stream start taken
+    → (p.gather.fault ≡ None → q.gather.fed ≡ p.gather.fed ++ piece) → (IsSome p.gather.fault → q.gather ≡ p.gather) → q.gather.given ≡ p.gather.given → IsStanding q.gather
+    → q.number ≡ p.number → q.side ≡ p.side → q.broken ≡ p.broken → Stands q (stream ++ piece) start taken
+stands_fed p q stream piece start taken s fed later given standing number side broken = record {
+  fed = fed_more p.gather q.gather stream piece fed later s.fed;
+  standing = standing;
+  counted = omega (arith, number, s.counted, ap length given);
+  printed = rw (side, given, broken) s.printed;
+}
+
+-- a dump of a standing printer has begun
+pub stands_begun : (p : Printer) (stream : List ℕ) (start taken : Option (List ℕ)) → Stands p stream start taken → BeginsDump p.side stream start taken
+stands_begun p stream start taken s = begun p.side p.gather stream start taken s.fed s.standing (as_part p.broken start taken (lines p.side 1 p.gather.given) s.printed)
+
 -- ---- the end
 
 given_is_all : (g : Gathered) → g.waiting ≡ [] → g.given ++ g.waiting ≡ g.given
@@ -221,3 +250,11 @@ ends_long g stream sum none is standing fed =
 
 pub ends_many : (g : Gathered) (stream : List ℕ) → g.waiting ≡ [] → g.fault ≡ Some TooMany → IsStanding g → IsFed g.fault g.fed stream → EndsAs stream g.given Many
 ends_many g stream none is standing fed = ends_refused g stream TooMany (λ e. cc) none is standing fed
+
+pub finished : (p : Printer) (stream : List ℕ) (start taken taken_new : Option (List ℕ)) (b : Bool) (final text : List ℕ) → Stands p stream start taken → EndsIn stream p.gather.given final → text ≡ final
+    → Puts p.broken b taken taken_new text → (whole : List ℕ) × Dumps p.side stream whole × IsPrinted b start taken_new whole
+finished p stream start taken taken_new b final text s ends e puts = (
+  lines p.side 1 p.gather.given ++ final,
+  record { list = p.gather.given; final = final; ends = ends; spelled = refl },
+  printed_more p.broken b start taken taken_new (lines p.side 1 p.gather.given) final s.printed (subst (λ (t : List ℕ). Puts p.broken b taken taken_new t) e puts),
+)
