@@ -95,7 +95,7 @@ fed_front (Some f) fed stream e = e
 fed_more_by : (f : Option GatherFault) (old new : Gathered) (stream piece : List ℕ) → old.fault ≡ f → (old.fault ≡ None → new.fed ≡ old.fed ++ piece) → (IsSome old.fault → new ≡ old) → IsFed f old.fed stream → IsFed new.fault new.fed (stream ++ piece)
 fed_more_by None old new stream piece is fed later e = all_fed new.fault new.fed (stream ++ piece) (ap (λ (t : List ℕ). t ++ piece) e ∙ sym (fed is))
 fed_more_by (Some f) old new stream piece is fed later e =
-    let same : new ≡ old = later (rw is tt) in
+    let same : new ≡ old = later (rw is refl) in
     subst (λ (g : Gathered). IsFed g.fault g.fed (stream ++ piece)) (sym same)
     (rw is (e.0 ++ piece, ap (λ (t : List ℕ). t ++ piece) e.1 ∙ append_assoc old.fed e.0 piece))
 
@@ -153,7 +153,7 @@ begins_size stream list rest b = omega (arith, records_size b.front list b.recor
 -- ---- counts
 
 pub raises_none : (broken : Bool) (n : ℕ) → Raises broken broken n n
-raises_none false n = record { later = omega arith; rose = λ t. absurd t }
+raises_none false n = record { later = omega arith; rose = λ t. absurd (cc t) }
 raises_none true n = (refl, refl)
 
 pub raises_on : (a b c : Bool) (f g h : ℕ) → Raises a b f g → Raises b c g h → Raises a c f h
@@ -161,7 +161,7 @@ raises_on true b c f g h r s =
     let t : Raises true c g h = subst (λ (x : Bool). Raises x c g h) r.0 s in
     (t.0, t.1 ∙ r.1)
 raises_on false false c f g h r s = record { later = omega (arith, r.later, s.later); rose = λ t. omega (arith, r.later, s.rose t) }
-raises_on false true c f g h r s = subst (λ (x : Bool). Counts f h x) (sym s.0) (record { later = omega (arith, r.later, s.1); rose = λ t. omega (arith, r.rose tt, s.1) })
+raises_on false true c f g h r s = subst (λ (x : Bool). Counts f h x) (sym s.0) (record { later = omega (arith, r.later, s.1); rose = λ t. omega (arith, r.rose refl, s.1) })
 
 -- counted from where nothing was broken
 pub raises_counts : (b c : Bool) (f g h : ℕ) → Counts f g b → Raises b c g h → Counts f h c
@@ -222,6 +222,13 @@ stands_fed p q stream piece start taken s fed later given standing number side b
   printed = rw (side, given, broken) s.printed;
 }
 
+-- a piece was fed, and there was no memory for it
+pub begun_fed : (p : Printer) (g : Gathered) (stream piece : List ℕ) (start taken : Option (List ℕ)) → Stands p stream start taken
+    → (p.gather.fault ≡ None → g.fed ≡ p.gather.fed ++ piece) → (IsSome p.gather.fault → g ≡ p.gather) → g.given ≡ p.gather.given → IsStanding g → BeginsDump p.side (stream ++ piece) start taken
+begun_fed p g stream piece start taken s fed later given standing =
+    begun p.side g (stream ++ piece) start taken (fed_more p.gather g stream piece fed later s.fed) standing
+    (rw given (as_part p.broken start taken (lines p.side 1 p.gather.given) s.printed))
+
 -- a dump of a standing printer has begun
 pub stands_begun : (p : Printer) (stream : List ℕ) (start taken : Option (List ℕ)) → Stands p stream start taken → BeginsDump p.side stream start taken
 stands_begun p stream start taken s = begun p.side p.gather stream start taken s.fed s.standing (as_part p.broken start taken (lines p.side 1 p.gather.given) s.printed)
@@ -241,7 +248,7 @@ ends_refused : (g : Gathered) (stream : List ℕ) (f : GatherFault) → (f ≡ N
 ends_refused g stream f other none is standing fed =
     let r = refused g f none is other standing in
     let more = fed_front g.fault g.fed stream fed in
-    (r.0 ++ more.0, rw more.1 (refused_stays g.fed more.0 g.given r.0 f r.1))
+    (r.0 ++ more.0, subst (λ (t : List ℕ). Refused t g.given (r.0 ++ more.0) f) (sym more.1) (refused_stays g.fed more.0 g.given r.0 f r.1))
 
 pub ends_long : (g : Gathered) (stream : List ℕ) (sum : ℕ) → g.waiting ≡ [] → g.fault ≡ Some (TooLong sum) → IsStanding g → IsFed g.fault g.fed stream → EndsAs stream g.given Long
 ends_long g stream sum none is standing fed =
@@ -251,10 +258,11 @@ ends_long g stream sum none is standing fed =
 pub ends_many : (g : Gathered) (stream : List ℕ) → g.waiting ≡ [] → g.fault ≡ Some TooMany → IsStanding g → IsFed g.fault g.fed stream → EndsAs stream g.given Many
 ends_many g stream none is standing fed = ends_refused g stream TooMany (λ e. cc) none is standing fed
 
-pub finished : (p : Printer) (stream : List ℕ) (start taken taken_new : Option (List ℕ)) (b : Bool) (final text : List ℕ) → Stands p stream start taken → EndsIn stream p.gather.given final → text ≡ final
-    → Puts p.broken b taken taken_new text → (whole : List ℕ) × Dumps p.side stream whole × IsPrinted b start taken_new whole
-finished p stream start taken taken_new b final text s ends e puts = (
+pub finished : (p : Printer) (stream : List ℕ) (start taken taken_new : Option (List ℕ)) (b is : Bool) (final text : List ℕ) → Stands p stream start taken → EndsIn stream p.gather.given final → text ≡ final
+    → Puts p.broken b taken taken_new text → b ≡ is → (whole : List ℕ) × Dumps p.side stream whole × IsPrinted is start taken_new whole
+finished p stream start taken taken_new b is final text s ends e puts same = (
   lines p.side 1 p.gather.given ++ final,
   record { list = p.gather.given; final = final; ends = ends; spelled = refl },
-  printed_more p.broken b start taken taken_new (lines p.side 1 p.gather.given) final s.printed (subst (λ (t : List ℕ). Puts p.broken b taken taken_new t) e puts),
+  subst (λ (x : Bool). IsPrinted x start taken_new (lines p.side 1 p.gather.given ++ final)) same
+  (printed_more p.broken b start taken taken_new (lines p.side 1 p.gather.given) final s.printed (subst (λ (t : List ℕ). Puts p.broken b taken taken_new t) e puts)),
 )

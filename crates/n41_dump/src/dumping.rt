@@ -42,8 +42,9 @@ fn print_all<S: Source, K: Sink>(
         if n == 0 {
             return Ok(());
         }
-        if printer.take(&room[..n], sink).is_err() {
-            return Err(DumpFault::NoMemory);
+        match printer.take(&room[..n], sink) {
+            Ok(()) => {}
+            Err(_) => return Err(DumpFault::NoMemory),
         }
     }
 }

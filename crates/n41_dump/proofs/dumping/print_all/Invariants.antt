@@ -4,8 +4,8 @@ use Rattle.n41_dump.specs.Dumps.{most_bytes, Gave}
 use Rattle.n41_dump.specs.Steps.{Stands}
 use Rattle.n41_dump.proofs.dumping.print_all.Given as goal
 
-abbrev pub invariant-loop-n : goal.invariant-loop-n
-invariant-loop-n g l = record {
+abbrev pub invariant-loop-room : goal.invariant-loop-room
+invariant-loop-room g l = record {
   stream : (stream : List ℕ) × Gave (g.S.Source.left l.initial.source) (g.S.Source.left l.source) stream × (l.came ≡ length stream) × Stands l.printer stream (g.K.Sink.taken l.initial.sink) (g.K.Sink.taken l.sink);
   within : l.came ≤ most_bytes;
   waiting : l.printer.gather.waiting ≡ [];
@@ -15,5 +15,5 @@ invariant-loop-n g l = record {
   room : length l.room.items ≡ 65536;
 }
 
-abbrev pub decreases-loop-n : goal.decreases-loop-n
-decreases-loop-n g l = most_bytes - l.came
+abbrev pub decreases-loop-room : goal.decreases-loop-room
+decreases-loop-room g l = most_bytes - l.came

@@ -3,12 +3,8 @@ use Rattle.n41_dump.proofs.printer.Printer.finish.Goals as goal
 
 pub returns-then-self-clause-finishes : goal.returns-then-self-clause-finishes
 returns-then-self-clause-finishes g c =
-    λ stream start s.
-    let f = finished c.args.self.now stream start _ _ _ _ _ s (c.in-Ok.ensures stream s.fed) c.as_bytes.ensures.value c.put.ensures.puts in
-    (f.0, f.1, rw c.if-self.true at f.2)
+    λ stream start s. finished c.args.self.now stream start _ _ _ _ _ _ s (c.in-Ok.ensures stream s.fed) c.as_bytes.ensures.value c.put.ensures.puts c.if-self.true
 
 pub returns-clause-finishes : goal.returns-clause-finishes
 returns-clause-finishes g c =
-    λ stream start s.
-    let f = finished c.args.self.now stream start _ _ _ _ _ s (c.in-Ok.ensures stream s.fed) c.as_bytes.ensures.value c.put.ensures.puts in
-    (f.0, f.1, rw c.if-self.false at f.2)
+    λ stream start s. finished c.args.self.now stream start _ _ _ _ _ _ s (c.in-Ok.ensures stream s.fed) c.as_bytes.ensures.value c.put.ensures.puts c.if-self.false
