@@ -1,0 +1,3 @@
+pub mod Dumps
+pub mod Causes
+pub mod Steps
