@@ -2,6 +2,5 @@ pub mod Address
 pub mod Forms
 pub mod Lengths
 pub mod ReplyLawful
-pub mod Growing
 pub mod Asking
 pub mod Hearing

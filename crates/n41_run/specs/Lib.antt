@@ -3,3 +3,4 @@ pub mod Causes
 pub mod Asked
 pub mod Exchange
 pub mod Probed
+pub mod Finishes

@@ -1,8 +1,8 @@
 -- What the words of the command line may be (own).
 use Rattle.std.specs.Prelude.{◌≡◌, ◌<◌, ◌≤◌, ◌+◌, ◌-◌, ℕ, List, [], ◌∷◌, ◌++◌, length, take, codes}
 use Rattle.std.specs.Fmt.{decimal}
-use Rattle.n41_run.specs.declared.side.Side.{Side}
-use Rattle.n41_run.specs.declared.side.Side.TheVariants.{Client, Server}
+use Rattle.n41_lines.specs.declared.side.Side.{Side}
+use Rattle.n41_lines.specs.declared.side.Side.TheVariants.{Client, Server}
 use Rattle.n41_run.specs.declared.words.Verb.{Verb}
 use Rattle.n41_run.specs.declared.words.Verb.TheVariants.{Probe, Run, Dump}
 

@@ -1,3 +1,7 @@
+ghost use Rattle.std.specs.Prelude.{◌≡◌};
+ghost use Rattle.n41_run.specs.Causes.{kind_text};
+
+use n41_script::LineKind;
 use std::fmt;
 
 /// Why a call of the program failed. Its text is the line that the program prints.
@@ -5,6 +9,8 @@ use std::fmt;
 pub enum RunFault {
     /// The place, from 1, of the first word that fits no form; one past the last where a word is missing.
     Words(usize),
+    /// The line with this number, from 1, is the first of the script that is refused, for this. A script or a stream that is too long has line 0.
+    Script(u64, LineKind),
     /// The source failed.
     ReadFault,
     /// The sink failed.
@@ -27,12 +33,32 @@ impl RunFault {
     {
         match self {
             RunFault::Words(_) => 2,
+            RunFault::Script(_, _) => 3,
             RunFault::ReadFault => 4,
             RunFault::WriteFault => 5,
             RunFault::Unreachable(_) => 6,
             RunFault::Breach(_) => 7,
             RunFault::NoMemory => 8,
         }
+    }
+}
+
+/// The word for what is wrong with a line of a script.
+fn kind_word(kind: LineKind) -> &'static str
+    ensures { result.now ≡ kind_text kind }
+{
+    match kind {
+        LineKind::Byte => "byte",
+        LineKind::Limit => "limit",
+        LineKind::Plan => "plan",
+        LineKind::Caller => "caller",
+        LineKind::Command => "command",
+        LineKind::Words => "words",
+        LineKind::Name => "name",
+        LineKind::Twice => "twice",
+        LineKind::Path => "path",
+        LineKind::Number => "number",
+        LineKind::Hex => "hex",
     }
 }
 
@@ -45,6 +71,7 @@ impl fmt::Display for RunFault {
     fn fmt<W: fmt::Write>(&self, f: &mut fmt::Formatter<W>) -> fmt::Result {
         match self {
             RunFault::Words(place) => write!(f, "bad word at {place}"),
+            RunFault::Script(line, kind) => write!(f, "line {line}: {}", kind_word(*kind)),
             RunFault::ReadFault => write!(f, "read fault"),
             RunFault::WriteFault => write!(f, "write fault"),
             RunFault::Unreachable(rounds) => write!(f, "unreachable after {rounds} rounds"),

@@ -3,11 +3,10 @@
 
 mod exchange;
 mod fault;
+mod finishing;
 mod line;
 mod probing;
 mod running;
-pub mod side;
-mod sinking;
 mod talk;
 mod words;
 

@@ -13,9 +13,9 @@ ghost use Rattle.n41_run.specs.Probed.{HearsNone, BeginsToAsk, IsProbed, IsPartl
 
 use crate::exchange::{read_reply, request_of};
 use crate::line::line_of;
-use crate::sinking::put_all;
 use crate::{RunFault, Talk};
 use n41_link::{Clock, Dialer, Ear, EarFault, EarGot, Inflow, Mouth, Outflow, SayFault, Sink};
+use n41_streams::put_all;
 use n41_types::Bytes;
 use std::alloc::Global;
 

@@ -1,9 +1,9 @@
 ghost use Rattle.std.specs.Prelude.{◌≡◌, ◌<◌, ◌++◌, ◌∷◌, ◌↔◌, ℕ, codes, List, length, get_or, map, string_bytes, IsTrue, IsOk, IfOk, IfErr, IfSome, IfNone};
 ghost use Rattle.n41_run.specs.Words.{IsPort, IsAddress, IsVerb, IsOperand, IsForm, IsFirstBad, verb_text, side_text};
-ghost use Rattle.n41_run.specs.declared.side.Side.{Side as SideValue};
+ghost use Rattle.n41_lines.specs.declared.side.Side.{Side as SideValue};
 ghost use Rattle.n41_run.specs.Asked.{Asks, Takes};
 
-use crate::side::Side;
+use n41_lines::Side;
 
 /// What the words ask for.
 #[derive(Debug, Drop)]
