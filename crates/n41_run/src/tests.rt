@@ -270,3 +270,53 @@ fn a_fault_is_one_line(rt: HostRuntime) -> Result<(), Fail> {
     }
     Ok(())
 }
+
+// What a run without a connection prints for its words and its input, and its status.
+fn printed<R: Threads + Wait + Sync>(
+    rt: &R,
+    alloc: Global,
+    words: &[String],
+    given: &[u8],
+    sink: &mut SureSink,
+) -> Result<u8, Fail> {
+    let mut source = SureSource::new(alloc, given)?;
+    let dialer = MemDialer::new(alloc, Vec::new(alloc), &[])?;
+    let clock = MemClock::new(alloc, &[5])?;
+    let house: SureListener = SureListener::new(Vec::new(alloc));
+    Ok(run(rt, alloc, words, &mut source, sink, dialer, house, clock).status)
+}
+
+fn texts_of(alloc: Global, words: &[&str]) -> Result<Vec<String>, Fail> {
+    let mut texts = Vec::new(alloc);
+    for word in words {
+        texts.push(String::from_str(alloc, word)?)?;
+    }
+    Ok(texts)
+}
+
+#[test]
+fn streams_are_dumped_and_an_empty_script_asks_nothing(rt: HostRuntime) -> Result<(), Fail> {
+    let alloc = rt.alloc();
+    // A header that claims four bytes, of which none is a message, and then a rest.
+    let bad: &[u8] = &[0x80, 0, 0, 4, 0, 0, 0, 9, 0x80];
+    let rows: [([&str; 2], &[u8], u8, &[u8]); 6] = [
+        (["dump", "client"], CALL, 0, b"1 call xid 1 ops 42\nrest 0\n"),
+        (
+            ["dump", "server"],
+            REPLY,
+            0,
+            b"1 reply xid 1 status 0 ops 42:0\nrest 0\n",
+        ),
+        (["dump", "client"], bad, 0, b"1 bad 00000009\nrest 1\n"),
+        (["dump", "clients"], CALL, 2, b""),
+        (["run", "x:2049"], b"", 0, b""),
+        (["run", "x:2049"], b"a stat /\nb look /\n", 3, b""),
+    ];
+    for (words, given, status, text) in rows {
+        let mut sink = SureSink::new(alloc);
+        let words = texts_of(alloc, &words)?;
+        assert_eq!(rt; printed(&rt, alloc, &words, given, &mut sink)?, status);
+        assert_eq!(rt; sink.bytes(), text);
+    }
+    Ok(())
+}
