@@ -1,17 +1,14 @@
 // What each command of the program leaves.
-ghost use Rattle.std.specs.Prelude.{◌≡◌, [], Some};
+ghost use Rattle.std.specs.Prelude.{◌≡◌, Some};
 ghost use Rattle.n41_run.specs.Causes.{status};
-ghost use Rattle.n41_run.specs.Finishes.{DumpEnds, ProbeEnds, RunEnds, of_dump, of_perform};
+ghost use Rattle.n41_run.specs.Finishes.{DumpEnds, ProbeEnds, of_dump};
 
 use crate::{Finish, RunFault, probe};
 use n41_dump::{DumpFault, dump};
-use n41_journal::Journal;
 use n41_lines::Side;
 use n41_link::{Clock, Dialer, Listener, Sink, Source};
-use n41_perform::{PerformFault, Performed, perform};
 use n41_script::LineKind;
 use std::alloc::Global;
-use std::sync::Wait;
 
 /// The status of a run with this fault.
 pub(crate) fn status_of(fault: Option<RunFault>) -> u8
@@ -20,19 +17,6 @@ pub(crate) fn status_of(fault: Option<RunFault>) -> u8
     match fault {
         None => 0,
         Some(fault) => fault.status(),
-    }
-}
-
-fn fault_of_perform(fault: PerformFault) -> RunFault
-    ensures { result ≡ of_perform fault }
-{
-    match fault {
-        PerformFault::Script(line, kind) => RunFault::Script(line, kind),
-        PerformFault::ReadFault => RunFault::ReadFault,
-        PerformFault::WriteFault => RunFault::WriteFault,
-        PerformFault::Unreachable(rounds) => RunFault::Unreachable(rounds),
-        PerformFault::Breach(event) => RunFault::Breach(event),
-        PerformFault::NoMemory => RunFault::NoMemory,
     }
 }
 
@@ -47,32 +31,8 @@ fn fault_of_dump(fault: DumpFault) -> RunFault
     }
 }
 
-/// A run that made no client.
-fn without_client<D: Dialer, H: Listener, C>(
-    alloc: Global,
-    fault: Option<RunFault>,
-    dialer: D,
-    house: H,
-    clock: C,
-) -> Finish<D, H, C>
-    ensures { (result.fault ≡ fault) × (result.status ≡ status fault) × (result.dialer ≡ dialer) × (result.house ≡ house) × (result.clock ≡ clock) }
-    ensures events { result.journal.events ≡ [] }
-{
-    Finish {
-        status: status_of(fault),
-        fault,
-        journal: Journal::new(alloc),
-        dialer,
-        house,
-        clock,
-        wires: Vec::new(alloc),
-        probed: None,
-    }
-}
-
 /// Words that are no form: nothing is done.
 pub(crate) fn refuse<D: Dialer, H: Listener, C>(
-    alloc: Global,
     place: usize,
     dialer: D,
     house: H,
@@ -82,7 +42,14 @@ pub(crate) fn refuse<D: Dialer, H: Listener, C>(
     ensures status { result.status ≡ 2 }
     ensures same { (result.dialer ≡ dialer) × (result.house ≡ house) × (result.clock ≡ clock) }
 {
-    without_client(alloc, Some(RunFault::Words(place)), dialer, house, clock)
+    Finish {
+        status: 2,
+        fault: Some(RunFault::Words(place)),
+        dialer,
+        house,
+        clock,
+        probed: None,
+    }
 }
 
 /// One exchange with the server.
@@ -102,53 +69,10 @@ pub(crate) fn finish_probe<K: Sink, D: Dialer, H: Listener, C: Clock>(
     Finish {
         status,
         fault,
-        journal: Journal::new(alloc),
         dialer,
         house,
         clock,
-        wires: Vec::new(alloc),
         probed,
-    }
-}
-
-/// A script, run against the server.
-pub(crate) fn finish_script<R: Wait, S: Source, K: Sink, D: Dialer, H: Listener, C: Clock>(
-    rt: &R,
-    alloc: Global,
-    addr: &str,
-    source: &mut S,
-    sink: &mut K,
-    dialer: D,
-    house: H,
-    clock: C,
-) -> Finish<D, H, C>
-where
-    D::I: Drop,
-    D::O: Drop,
-    ensures status { result.status ≡ status result.fault }
-    ensures ends { RunEnds result.fault result.journal.events result.wires.items (C.given result.clock) (D.faults dialer) (D.faults result.dialer) (S.left source.old) (S.left source.new) (S.faults source.old) (S.faults source.new) (K.taken sink.old) (K.taken sink.new) (K.faults sink.old) (K.faults sink.new) }
-    ensures house { result.house ≡ house }
-{
-    let Performed {
-        fault,
-        journal,
-        dialer,
-        clock,
-        wires,
-    } = perform(rt, alloc, addr, source, sink, dialer, clock);
-    let fault = match fault {
-        None => None,
-        Some(fault) => Some(fault_of_perform(fault)),
-    };
-    Finish {
-        status: status_of(fault),
-        fault,
-        journal,
-        dialer,
-        house,
-        clock,
-        wires,
-        probed: None,
     }
 }
 
@@ -170,5 +94,12 @@ pub(crate) fn finish_dump<S: Source, K: Sink, D: Dialer, H: Listener, C>(
         Ok(()) => None,
         Err(fault) => Some(fault_of_dump(fault)),
     };
-    without_client(alloc, fault, dialer, house, clock)
+    Finish {
+        status: status_of(fault),
+        fault,
+        dialer,
+        house,
+        clock,
+        probed: None,
+    }
 }
