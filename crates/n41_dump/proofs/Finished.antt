@@ -1,5 +1,5 @@
 -- From the pieces of a stream to its dump.
-use Rattle.std.proofs.Common.{◌≡◌, ◌≤◌, ◌<◌, ◌+◌, ◌∙◌, ap, sym, subst, ℕ, List, [], ◌++◌, length, take, arith, length-append, append_assoc, append-nil, refl, Ok, Err, Result, Bool, true, false}
+use Rattle.std.proofs.Common.{◌≡◌, ◌≤◌, ◌<◌, ◌+◌, ◌∙◌, ap, sym, subst, ℕ, List, [], ◌++◌, length, take, arith, length-append, append_assoc, append-nil, refl, None, Some, Ok, Err, Result, Bool, true, false}
 use Rattle.std.proofs.lemmas.List.{length-take-le}
 use Rattle.std.specs.declared.option.Option.{Option}
 use Rattle.n41_link.specs.Counts.{Counts}
@@ -8,9 +8,10 @@ use Rattle.n41_dump.specs.declared.fault.DumpFault.{DumpFault}
 use Rattle.n41_dump.specs.declared.fault.DumpFault.TheVariants.{Limit, ReadFault, WriteFault, NoMemory}
 use Rattle.n41_dump.specs.declared.printer.Printer.{Printer}
 use Rattle.n41_dump.specs.Causes.{Answers, is_read_fault, is_write_fault}
-use Rattle.n41_dump.specs.Dumps.{most_bytes, Gave, IsRead, BeginsDump}
+use Rattle.n41_dump.specs.Dumps.{most_bytes, Gave, IsRead, BeginsDump, IsBegun}
 use Rattle.n41_dump.specs.Steps.{Reads, PrintsAll, Finishes, Stands}
-use Rattle.n41_dump.proofs.Printing.{gave_more, gave_same, begun_more, stands_begun}
+use Rattle.std.specs.Io.KnownBytes.{append_known}
+use Rattle.n41_dump.proofs.Printing.{gave_none, gave_more, gave_same, begun_more, stands_begun}
 
 -- a read that ended the dump
 pub stopped : {T : Type 0} (e : DumpFault) (side : Side) (p : Printer) (stream : List ℕ) (start taken left left_mid left_new : Option (List ℕ)) (room : List ℕ) (came came_new : ℕ)
@@ -67,3 +68,26 @@ pub piece_fits : (stream room piece : List ℕ) (n came came_new : ℕ) → came
 piece_fits stream room piece n came came_new count within e more =
     let size : length piece ≡ n = ap length e ∙ length-take-le n room within in
     omega (arith, length-append stream piece, size, count, more)
+
+nothing_more : (known : Option (List ℕ)) → known ≡ append_known known []
+nothing_more None = refl
+nothing_more (Some xs) = ap Some (sym (append-nil xs))
+
+-- nothing was read or printed
+pub not_begun : (side : Side) (left taken : Option (List ℕ)) → IsBegun side left left taken taken
+not_begun side left taken = record {
+  stream = [];
+  gave = gave_none left;
+  begun = record {
+    list = [];
+    rest = [];
+    begins = record { front = []; whole = refl; records = refl };
+    took = record { part = []; more = []; cut = refl; took = nothing_more taken };
+  };
+}
+
+pub begun_at : (a b : Side) (stream : List ℕ) (start taken : Option (List ℕ)) → a ≡ b → BeginsDump a stream start taken → BeginsDump b stream start taken
+begun_at a b stream start taken e h = subst (λ (z : Side). BeginsDump z stream start taken) e h
+
+pub finishes_at : {T : Type 0} (r : Result T DumpFault) (a b : Side) (stream : List ℕ) (start taken : Option (List ℕ)) → a ≡ b → Finishes r a stream start taken → Finishes r b stream start taken
+finishes_at r a b stream start taken e h = subst (λ (z : Side). Finishes r z stream start taken) e h

@@ -172,12 +172,15 @@ raises_counts b c f g h r s = raises_on false b c f g h r s
 pub started : (p : Printer) (taken : Option (List ℕ)) → IsStarted p → Stands p [] taken taken
 started p taken s = record {
   fed = rw s.fed refl;
-  standing = rw s.fed ([], record {
-    front = [];
-    whole = refl;
-    records = refl;
-    ending = record { before = []; tail = []; spelled = refl; within = record { many = omega arith; long = omega arith }; short = inl (omega arith) };
-  });
+  standing = rw s.fed (
+    [],
+    record {
+      front = [];
+      whole = refl;
+      records = refl;
+      ending = record { before = []; tail = []; spelled = refl; within = record { many = omega arith; long = omega arith }; short = inl (omega arith) };
+    },
+  );
   counted = rw (s.fed, s.number) refl;
   printed = rw (s.fed, s.whole) (sym (nothing_more taken));
 } where
@@ -264,5 +267,5 @@ finished p stream start taken taken_new b is final text s ends e puts same = (
   lines p.side 1 p.gather.given ++ final,
   record { list = p.gather.given; final = final; ends = ends; spelled = refl },
   subst (λ (x : Bool). IsPrinted x start taken_new (lines p.side 1 p.gather.given ++ final)) same
-  (printed_more p.broken b start taken taken_new (lines p.side 1 p.gather.given) final s.printed (subst (λ (t : List ℕ). Puts p.broken b taken taken_new t) e puts)),
+      (printed_more p.broken b start taken taken_new (lines p.side 1 p.gather.given) final s.printed (subst (λ (t : List ℕ). Puts p.broken b taken taken_new t) e puts)),
 )

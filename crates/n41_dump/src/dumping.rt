@@ -1,5 +1,5 @@
 // A dump of a source.
-ghost use Rattle.std.specs.Prelude.{◌≡◌, [], None, false, length, IfOk, OnOk};
+ghost use Rattle.std.specs.Prelude.{◌≡◌, ◌<◌, length, IfOk};
 ghost use Rattle.n41_link.specs.Counts.{Counts};
 ghost use Rattle.n41_dump.specs.Causes.{is_read_fault, is_write_fault, Answers};
 ghost use Rattle.n41_dump.specs.Steps.{IsStarted, PrintsAll};
@@ -23,22 +23,20 @@ fn make_room(alloc: Global) -> Result<Vec<u8>, NoMemory>
 
 /// Reads the source to its end, and prints each record as soon as it is whole.
 fn print_all<S: Source, K: Sink>(
-    alloc: Global,
+    room: &mut [u8],
     printer: &mut Printer,
     source: &mut S,
     sink: &mut K,
 ) -> Result<(), DumpFault>
-    requires { IsStarted printer.old }
+    requires some { 0 < length room.old }
+    requires started { IsStarted printer.old }
     ensures prints { PrintsAll result printer.old.side printer.new (S.left source.old) (S.left source.new) (K.taken sink.old) (K.taken sink.new) }
     ensures read { Counts (S.faults source.old) (S.faults source.new) (is_read_fault result) }
     ensures write { Counts (K.faults sink.old) (K.faults sink.new) printer.new.broken }
 {
-    let Ok(mut room) = make_room(alloc) else {
-        return Err(DumpFault::NoMemory);
-    };
     let mut came = 0;
-    loop {
-        let n = read_piece(source, &mut room, &mut came)?;
+    'pieces: loop {
+        let n = read_piece(source, room, &mut came)?;
         if n == 0 {
             return Ok(());
         }
@@ -63,7 +61,10 @@ pub fn dump<S: Source, K: Sink>(
     ensures read { Counts (S.faults source.old) (S.faults source.new) (is_read_fault result) }
     ensures write { Counts (K.faults sink.old) (K.faults sink.new) (is_write_fault result) }
 {
+    let Ok(mut room) = make_room(alloc) else {
+        return Err(DumpFault::NoMemory);
+    };
     let mut printer = Printer::new(alloc, side);
-    print_all(alloc, &mut printer, source, sink)?;
+    print_all(&mut room, &mut printer, source, sink)?;
     printer.finish(sink)
 }
