@@ -1,35 +1,12 @@
 // What each command of the program leaves.
 ghost use Rattle.std.specs.Prelude.{◌≡◌, Some};
 ghost use Rattle.n41_run.specs.Causes.{status};
-ghost use Rattle.n41_run.specs.Finishes.{DumpEnds, ProbeEnds, of_dump};
+ghost use Rattle.n41_run.specs.Finishes.{DumpEnds, ProbeEnds};
 
-use crate::{Finish, RunFault, probe};
-use n41_dump::{DumpFault, dump};
+use crate::{Finish, RunFault, dump, probe};
 use n41_lines::Side;
 use n41_link::{Clock, Dialer, Listener, Sink, Source};
-use n41_script::LineKind;
 use std::alloc::Global;
-
-/// The status of a run with this fault.
-pub(crate) fn status_of(fault: Option<RunFault>) -> u8
-    ensures { result ≡ status fault }
-{
-    match fault {
-        None => 0,
-        Some(fault) => fault.status(),
-    }
-}
-
-fn fault_of_dump(fault: DumpFault) -> RunFault
-    ensures { result ≡ of_dump fault }
-{
-    match fault {
-        DumpFault::Limit => RunFault::Script(0, LineKind::Limit),
-        DumpFault::ReadFault => RunFault::ReadFault,
-        DumpFault::WriteFault => RunFault::WriteFault,
-        DumpFault::NoMemory => RunFault::NoMemory,
-    }
-}
 
 /// Words that are no form: nothing is done.
 pub(crate) fn refuse<D: Dialer, H: Listener, C>(
@@ -90,12 +67,9 @@ pub(crate) fn finish_dump<S: Source, K: Sink, D: Dialer, H: Listener, C>(
     ensures ends { DumpEnds side result.fault (S.left source.old) (S.left source.new) (S.faults source.old) (S.faults source.new) (K.taken sink.old) (K.taken sink.new) (K.faults sink.old) (K.faults sink.new) }
     ensures same { (result.dialer ≡ dialer) × (result.house ≡ house) × (result.clock ≡ clock) }
 {
-    let fault = match dump(alloc, side, source, sink) {
-        Ok(()) => None,
-        Err(fault) => Some(fault_of_dump(fault)),
-    };
+    let (status, fault) = dump(alloc, side, source, sink);
     Finish {
-        status: status_of(fault),
+        status,
         fault,
         dialer,
         house,

@@ -1,6 +1,7 @@
 //! The top calls of the program: what it does for its words, over traits of the outside.
 #![tactic(auto)]
 
+mod dumping;
 mod exchange;
 mod fault;
 mod finishing;
@@ -10,6 +11,7 @@ mod running;
 mod talk;
 mod words;
 
+pub use dumping::dump;
 pub use fault::RunFault;
 pub use probing::probe;
 pub use running::{Finish, run};

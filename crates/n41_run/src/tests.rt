@@ -300,7 +300,12 @@ fn streams_are_dumped(rt: HostRuntime) -> Result<(), Fail> {
     // A header that claims four bytes, of which none is a message, and then a rest.
     let bad: &[u8] = &[0x80, 0, 0, 4, 0, 0, 0, 9, 0x80];
     let rows: [([&str; 2], &[u8], u8, &[u8]); 4] = [
-        (["dump", "client"], CALL, 0, b"1 call xid 1 ops 42\nrest 0\n"),
+        (
+            ["dump", "client"],
+            CALL,
+            0,
+            b"1 call xid 1 ops 42\nrest 0\n",
+        ),
         (
             ["dump", "server"],
             REPLY,
