@@ -1,0 +1,8 @@
+//! The slots of a session as its client uses them: on each at most one request is out, and its turns rise by one.
+#![tactic(auto)]
+
+mod slots;
+#[cfg(test)]
+mod tests;
+
+pub use slots::{Slot, Slots};
