@@ -1,17 +1,16 @@
 -- What the operations take is lawful.
-use Rattle.std.proofs.Common.{◌≡◌, ℕ, List, ◌++◌, true, false, Result, Ok, Err, refl}
-use Rattle.n41_xdr.specs.Format.{nothing}
+use Rattle.std.proofs.Common.{true, false, refl}
 use Rattle.n41_xdr.specs.Lawful.{IsLawful}
 use Rattle.n41_xdr.specs.declared.fault.XdrFault.TheVariants.{BadBool}
 use Rattle.n41_xdr.proofs.Lawful.{both_lawful, mapped_lawful, lifted_lawful, only_lawful, nothing_lawful, list_lawful, row_lawful, made_again, union_lawful}
-use Rattle.n41_results.specs.declared.results.LockType.TheVariants as kind
 use Rattle.n41_attr.specs.declared.fault.OpFault.TheVariants.{Xdr}
-use Rattle.n41_attr.specs.Parts.{bad_arm, stateid, string, word}
+use Rattle.n41_attr.specs.Parts.{bad_arm}
 use Rattle.n41_attr.proofs.PartsLawful.{word_lawful, hyper_lawful, flag_lawful, string_lawful, content_bytes_lawful, owner_bytes_lawful, verifier_lawful, stateid_lawful, bitmap_lawful, fattr_lawful}
 use Rattle.n41_args.specs.declared.locks.LockerArgs.TheVariants.{New, Old}
 use Rattle.n41_args.specs.declared.openings.OpenClaim.TheVariants as claim
 use Rattle.n41_args.specs.Owners.{state_owner}
-use Rattle.n41_args.specs.Locks.{lock_type, lock_type_rows, lock_type_arm, new_locker, old_locker, locker, locker_rows, locker_arm, lock, lock_test, unlock}
+use Rattle.n41_shared.proofs.Lawful.{lock_type_lawful}
+use Rattle.n41_args.specs.Locks.{new_locker, old_locker, locker, locker_rows, locker_arm, lock, lock_test, unlock}
 use Rattle.n41_args.specs.Openings.{close, downgrade, open_claim, claim_rows, claim_arm, guarded, guarded_rows, guarded_arm, NoCreate, Create, told_how, how_rows, how_arm, told_open}
 use Rattle.n41_args.specs.Files.{commit, read_args, write_args, told_set_attr, stateids}
 use Rattle.n41_args.specs.Directories.{directory_type, told_create, read_dir, rename}
@@ -21,26 +20,6 @@ unfolding state_owner
 state_owner_lawful = mapped_lawful _ _ _ (λ _. refl) (λ _. refl) (both_lawful _ _ hyper_lawful owner_bytes_lawful)
 
 -- ---- locks
-
-lock_type_lawful : IsLawful lock_type
-unfolding lock_type
-lock_type_lawful =
-    union_lawful Xdr bad_arm lock_type_rows lock_type_arm (
-      row_lawful lock_type_arm 1 (λ _. kind.Read) _ (λ _. refl) nothing_lawful,
-      (
-        row_lawful lock_type_arm 2 (λ _. kind.Write) _ (λ _. refl) nothing_lawful,
-        (
-          row_lawful lock_type_arm 3 (λ _. kind.ReadWaiting) _ (λ _. refl) nothing_lawful,
-          (row_lawful lock_type_arm 4 (λ _. kind.WriteWaiting) _ (λ _. refl) nothing_lawful, tt),
-        ),
-      ),
-    )
-    (elim [
-      | kind.Read ↦ λ rest fits. refl
-      | kind.Write ↦ λ rest fits. refl
-      | kind.ReadWaiting ↦ λ rest fits. refl
-      | kind.WriteWaiting ↦ λ rest fits. refl
-    ])
 
 new_locker_lawful : IsLawful new_locker
 unfolding new_locker

@@ -1,13 +1,12 @@
 -- What LOCK, LOCKT and LOCKU take (RFC 8881, sections 18.10 to 18.12).
-use Rattle.std.specs.Prelude.{ℕ, List, [], ◌∷◌, Result, Ok, Err}
-use Rattle.n41_xdr.specs.Format.{Format, ◌&◌, mapped, nothing, made, Arm, arm, union}
+use Rattle.std.specs.Prelude.{ℕ, List, [], ◌∷◌, Result}
+use Rattle.n41_xdr.specs.Format.{Format, ◌&◌, mapped, made, Arm, arm, union}
 use Rattle.n41_xdr.specs.declared.fault.XdrFault.TheVariants.{BadBool}
 use Rattle.n41_types.specs.declared.identities.Stateid.{Stateid}
-use Rattle.n41_results.specs.declared.results.LockType.{LockType}
-use Rattle.n41_results.specs.declared.results.LockType.TheVariants as kind
 use Rattle.n41_attr.specs.declared.fault.OpFault.{OpFault}
 use Rattle.n41_attr.specs.declared.fault.OpFault.TheVariants.{Xdr}
-use Rattle.n41_attr.specs.Parts.{word, hyper, flag, stateid, bad_arm}
+use Rattle.n41_shared.specs.Locks.{lock_type}
+use Rattle.n41_attr.specs.Parts.{word, hyper, flag, stateid}
 use Rattle.n41_args.specs.declared.owners.StateOwner.{StateOwner}
 use Rattle.n41_args.specs.declared.locks.LockerArgs.{LockerArgs}
 use Rattle.n41_args.specs.declared.locks.LockerArgs.TheVariants.{New, Old}
@@ -15,20 +14,6 @@ use Rattle.n41_args.specs.declared.locks.LockArgs.{LockArgs}
 use Rattle.n41_args.specs.declared.locks.LockTestArgs.{LockTestArgs}
 use Rattle.n41_args.specs.declared.locks.UnlockArgs.{UnlockArgs}
 use Rattle.n41_args.specs.Owners.{state_owner}
-
--- nfs_lock_type4
-abbrev pub lock_type_arm : LockType → Arm
-lock_type_arm kind.Read = arm 1 (nothing {E = OpFault}) tt
-lock_type_arm kind.Write = arm 2 (nothing {E = OpFault}) tt
-lock_type_arm kind.ReadWaiting = arm 3 (nothing {E = OpFault}) tt
-lock_type_arm kind.WriteWaiting = arm 4 (nothing {E = OpFault}) tt
-
-abbrev pub lock_type_rows : List (ℕ × (List ℕ → Result (LockType × List ℕ) OpFault))
-lock_type_rows =
-    (1, made (λ _. kind.Read) nothing) ∷ (2, made (λ _. kind.Write) nothing) ∷ (3, made (λ _. kind.ReadWaiting) nothing) ∷ (4, made (λ _. kind.WriteWaiting) nothing) ∷ []
-
-unfoldable pub lock_type : Format OpFault LockType
-lock_type = union Xdr bad_arm lock_type_rows lock_type_arm
 
 -- open_to_lock_owner4
 unfoldable pub new_locker : Format OpFault (ℕ × (Stateid × (ℕ × StateOwner)))

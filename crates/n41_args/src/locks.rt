@@ -4,12 +4,13 @@ ghost use Rattle.std.specs.Prelude.{◌≡◌, ◌++◌, OnOk};
 ghost use Rattle.n41_xdr.specs.Format.{made};
 ghost use Rattle.n41_attr.specs.Operations.{Gives};
 ghost use Rattle.n41_args.specs.declared.locks.LockerArgs.TheVariants.{New, Old};
-ghost use Rattle.n41_args.specs.Locks.{lock_type, new_locker, old_locker, locker, lock, lock_test, unlock};
+ghost use Rattle.n41_args.specs.Locks.{new_locker, old_locker, locker, lock, lock_test, unlock};
 
 use crate::owners::{StateOwner, read_owner, write_owner};
 use n41_attr::OpFault;
 use n41_attr::parts::{read_stateid, write_stateid};
 use n41_results::LockType;
+use n41_shared::locks::{read_lock_type, write_lock_type};
 use n41_types::{NoMemory, Stateid};
 use n41_xdr::{Reader, Writer, XdrFault};
 use std::alloc::{AllocError, Global};
@@ -107,31 +108,6 @@ pub struct UnlockArgs {
     pub stateid: Stateid,
     pub offset: u64,
     pub length: u64,
-}
-
-#[tactic(auto, unfolding(crate::specs::Locks::lock_type))]
-fn read_lock_type(r: &mut Reader) -> Result<LockType, OpFault>
-    ensures { Gives (λ x. x) result r.new (lock_type.read r.old) }
-{
-    match r.u32()? {
-        1 => Ok(LockType::Read),
-        2 => Ok(LockType::Write),
-        3 => Ok(LockType::ReadWaiting),
-        4 => Ok(LockType::WriteWaiting),
-        number => Err(OpFault::Xdr(XdrFault::BadArm(number))),
-    }
-}
-
-#[tactic(auto, unfolding(crate::specs::Locks::lock_type))]
-fn write_lock_type(w: &mut Writer, x: LockType) -> Result<(), NoMemory>
-    ensures { OnOk result (w.new ≡ w.old ++ lock_type.spell x) }
-{
-    match x {
-        LockType::Read => w.put_u32(1),
-        LockType::Write => w.put_u32(2),
-        LockType::ReadWaiting => w.put_u32(3),
-        LockType::WriteWaiting => w.put_u32(4),
-    }
 }
 
 #[tactic(auto, unfolding(crate::specs::Locks::new_locker))]

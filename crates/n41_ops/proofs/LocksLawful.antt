@@ -1,38 +1,17 @@
 -- What LOCK and LOCKT answer is lawful.
-use Rattle.std.proofs.Common.{◌≡◌, ℕ, List, ◌++◌, Result, Ok, Err, refl, arith}
-use Rattle.n41_xdr.specs.Format.{Format, Arm}
+use Rattle.std.proofs.Common.{◌≡◌, ℕ, List, ◌++◌, Result, Ok, Err, refl}
+use Rattle.n41_xdr.specs.Format.{Format}
 use Rattle.n41_xdr.specs.Lawful.{IsLawful}
-use Rattle.n41_xdr.proofs.Lawful.{mapped_lawful, both_lawful, nothing_lawful, row_lawful, made_again, union_lawful}
-use Rattle.n41_results.specs.declared.results.LockType.TheVariants as kind
+use Rattle.n41_xdr.proofs.Lawful.{mapped_lawful, both_lawful, row_lawful, made_again}
 use Rattle.n41_results.specs.declared.results.LockRefusal.{LockRefusal}
 use Rattle.n41_results.specs.declared.results.LockRefusal.TheVariants.{Denied, Other}
 use Rattle.n41_attr.specs.declared.fault.OpFault.{OpFault}
 use Rattle.n41_attr.specs.declared.fault.OpFault.TheVariants.{Xdr}
 use Rattle.n41_attr.specs.Unions.{choose_or}
-use Rattle.n41_attr.specs.Parts.{bad_arm}
 use Rattle.n41_attr.proofs.Unions.{open_union_lawful}
 use Rattle.n41_attr.proofs.PartsLawful.{hyper_lawful, owner_bytes_lawful, differs, apart}
-use Rattle.n41_ops.specs.Locks.{lock_type, lock_type_arm, lock_type_rows, lock_denied, lock_outcome, lock_arm, lock_rows}
-
-lock_type_lawful : IsLawful lock_type
-unfolding lock_type
-lock_type_lawful =
-    union_lawful Xdr bad_arm lock_type_rows lock_type_arm (
-      row_lawful lock_type_arm 1 (λ _. kind.Read) _ (λ _. refl) nothing_lawful,
-      (
-        row_lawful lock_type_arm 2 (λ _. kind.Write) _ (λ _. refl) nothing_lawful,
-        (
-          row_lawful lock_type_arm 3 (λ _. kind.ReadWaiting) _ (λ _. refl) nothing_lawful,
-          (row_lawful lock_type_arm 4 (λ _. kind.WriteWaiting) _ (λ _. refl) nothing_lawful, tt),
-        ),
-      ),
-    )
-    (elim [
-      | kind.Read ↦ λ rest fits. refl
-      | kind.Write ↦ λ rest fits. refl
-      | kind.ReadWaiting ↦ λ rest fits. refl
-      | kind.WriteWaiting ↦ λ rest fits. refl
-    ])
+use Rattle.n41_shared.proofs.Lawful.{lock_type_lawful}
+use Rattle.n41_ops.specs.Locks.{lock_denied, lock_outcome, lock_arm, lock_rows}
 
 lock_denied_lawful : IsLawful lock_denied
 unfolding lock_denied

@@ -1,23 +1,10 @@
 -- What the operations of client ids and sessions answer is lawful.
 use Rattle.std.proofs.Common.{refl}
 use Rattle.n41_xdr.specs.Lawful.{IsLawful}
-use Rattle.n41_xdr.proofs.Lawful.{mapped_lawful, both_lawful, option_lawful, list_lawful}
-use Rattle.n41_attr.proofs.PartsLawful.{word_lawful, hyper_lawful, flag_lawful, fixed_lawful, string_lawful, owner_bytes_lawful, zero_lawful, session_lawful, status_lawful}
-use Rattle.n41_ops.specs.Sessions.{channel, impl_id, impl_option, identity, session_made, bound, sequenced, statuses}
-
-channel_lawful : IsLawful channel
-unfolding channel
-channel_lawful =
-    mapped_lawful _ _ _ (λ _. refl) (λ _. refl)
-    (both_lawful _ _ word_lawful (both_lawful _ _ word_lawful (both_lawful _ _ word_lawful (both_lawful _ _ word_lawful (both_lawful _ _ word_lawful (both_lawful _ _ word_lawful (option_lawful _ _ word_lawful)))))))
-
-impl_id_lawful : IsLawful impl_id
-unfolding impl_id
-impl_id_lawful = mapped_lawful _ _ _ (λ _. refl) (λ _. refl) (both_lawful _ _ string_lawful (both_lawful _ _ string_lawful (both_lawful _ _ (fixed_lawful 8) word_lawful)))
-
-impl_option_lawful : IsLawful impl_option
-unfolding impl_option
-impl_option_lawful = option_lawful _ _ impl_id_lawful
+use Rattle.n41_xdr.proofs.Lawful.{mapped_lawful, both_lawful, list_lawful}
+use Rattle.n41_attr.proofs.PartsLawful.{word_lawful, hyper_lawful, flag_lawful, owner_bytes_lawful, zero_lawful, session_lawful, status_lawful}
+use Rattle.n41_shared.proofs.Lawful.{channel_lawful, impl_option_lawful}
+use Rattle.n41_ops.specs.Sessions.{identity, session_made, bound, sequenced, statuses}
 
 pub identity_lawful : IsLawful identity
 unfolding identity

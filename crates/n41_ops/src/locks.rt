@@ -4,13 +4,14 @@ ghost use Rattle.std.specs.Prelude.{◌≡◌, ◌++◌, OnOk};
 ghost use Rattle.n41_xdr.specs.Format.{nothing};
 ghost use Rattle.n41_attr.specs.Operations.{Gives};
 ghost use Rattle.n41_attr.specs.Parts.{owner_bytes, stateid};
-ghost use Rattle.n41_ops.specs.Locks.{lock_type, lock_denied, lock_outcome};
+ghost use Rattle.n41_ops.specs.Locks.{lock_denied, lock_outcome};
 
 use n41_attr::OpFault;
 use n41_attr::parts::{read_stateid, write_stateid};
-use n41_results::{LockDenied, LockRefusal, LockType};
+use n41_results::{LockDenied, LockRefusal};
+use n41_shared::locks::{read_lock_type, write_lock_type};
 use n41_types::{Bytes, NoMemory, Owner, Stateid, Status};
-use n41_xdr::{Reader, Writer, XdrFault};
+use n41_xdr::{Reader, Writer};
 use std::alloc::Global;
 
 #[tactic(auto, unfolding(n41_attr::specs::Parts::owner_bytes))]
@@ -26,31 +27,6 @@ fn write_owner(w: &mut Writer, x: &Owner) -> Result<(), NoMemory>
     ensures { OnOk result (w.new ≡ w.old ++ owner_bytes.spell x.now) }
 {
     w.put_opaque(x.as_slice())
-}
-
-#[tactic(auto, unfolding(crate::specs::Locks::lock_type))]
-fn read_lock_type(r: &mut Reader) -> Result<LockType, OpFault>
-    ensures { Gives (λ x. x) result r.new (lock_type.read r.old) }
-{
-    match r.u32()? {
-        1 => Ok(LockType::Read),
-        2 => Ok(LockType::Write),
-        3 => Ok(LockType::ReadWaiting),
-        4 => Ok(LockType::WriteWaiting),
-        number => Err(OpFault::Xdr(XdrFault::BadArm(number))),
-    }
-}
-
-#[tactic(auto, unfolding(crate::specs::Locks::lock_type))]
-fn write_lock_type(w: &mut Writer, x: LockType) -> Result<(), NoMemory>
-    ensures { OnOk result (w.new ≡ w.old ++ lock_type.spell x) }
-{
-    match x {
-        LockType::Read => w.put_u32(1),
-        LockType::Write => w.put_u32(2),
-        LockType::ReadWaiting => w.put_u32(3),
-        LockType::WriteWaiting => w.put_u32(4),
-    }
 }
 
 #[tactic(auto, unfolding(crate::specs::Locks::lock_denied))]

@@ -58,7 +58,7 @@ fn see_fault(rt: &impl Abort, alloc: Global, bytes: &[u8], want: OpFault) {
     assert_eq!(rt; reader.len(), bytes.len());
 }
 
-#[tactic(auto, unfolding(crate::specs::Results::told_res, crate::specs::Sessions::identity, crate::specs::Sessions::impl_option, n41_attr::specs::Parts::owner_bytes, n41_attr::specs::Parts::always_zero))]
+#[tactic(auto, unfolding(crate::specs::Results::told_res, crate::specs::Sessions::identity, n41_shared::specs::Sessions::impl_option, n41_attr::specs::Parts::owner_bytes, n41_attr::specs::Parts::always_zero))]
 fn identity(alloc: Global) -> Result<Res, AllocError>
     ensures { IfOk result (λ x. told_res.Fits (written_res x)) }
 {
@@ -73,7 +73,7 @@ fn identity(alloc: Global) -> Result<Res, AllocError>
     })))
 }
 
-#[tactic(auto, unfolding(crate::specs::Results::told_res, crate::specs::Locks::lock_denied, crate::specs::Locks::lock_type, n41_attr::specs::Parts::owner_bytes))]
+#[tactic(auto, unfolding(crate::specs::Results::told_res, crate::specs::Locks::lock_denied, n41_shared::specs::Locks::lock_type, n41_attr::specs::Parts::owner_bytes))]
 fn denied(alloc: Global) -> Result<Res, AllocError>
     ensures { IfOk result (λ x. told_res.Fits (written_res x)) }
 {

@@ -17,7 +17,7 @@ use std::test::Fail;
 const EXCHANGED: &[u8] =
     b"\0\0\0\x01\0\0\0\x01\0\0\0\0\0\0\0\0\0\0\0\0\0\0\0\0\0\0\0\0\0\0\0\0\0\0\0\x01\0\0\0*\0\0\0\0\0\0\0\0\0\0\0\x07\0\0\0\x01\0\x01\0\0\0\0\0\0\0\0\0\0\0\0\0\0\0\0\0\x03srv\0\0\0\0\x03srv\0\0\0\0\0";
 
-#[tactic(auto, unfolding(n41_ops::specs::Results::told_res, n41_ops::specs::Sessions::identity, n41_ops::specs::Sessions::impl_option, n41_attr::specs::Parts::owner_bytes, n41_attr::specs::Parts::always_zero))]
+#[tactic(auto, unfolding(n41_ops::specs::Results::told_res, n41_ops::specs::Sessions::identity, n41_shared::specs::Sessions::impl_option, n41_attr::specs::Parts::owner_bytes, n41_attr::specs::Parts::always_zero))]
 fn identity(alloc: Global) -> Result<Res, NoMemory>
     ensures fits { IfOk result (λ x. told_res.Fits (written_res x)) }
     ensures well { IfOk result (λ x. status_of x ≡ ok) }

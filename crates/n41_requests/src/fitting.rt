@@ -15,7 +15,7 @@ use n41_types::{
     Stateid, Stateids, Verifier,
 };
 
-#[tactic(auto, unfolding(n41_args::specs::Args::told_arg, n41_session_args::specs::Sessions::exchange_id, n41_session_args::specs::Sessions::impl_option, n41_attr::specs::Parts::owner_bytes, n41_attr::specs::Parts::always_zero))]
+#[tactic(auto, unfolding(n41_args::specs::Args::told_arg, n41_session_args::specs::Sessions::exchange_id, n41_shared::specs::Sessions::impl_option, n41_attr::specs::Parts::owner_bytes, n41_attr::specs::Parts::always_zero))]
 pub(crate) fn exchange_id_fits(verifier: &Verifier, owner: &Bytes)
     requires { length owner.now ≤ 1024 }
     ensures { AllFit (args_of (Plan.ExchangeId verifier.now owner.now)) }
@@ -23,7 +23,7 @@ pub(crate) fn exchange_id_fits(verifier: &Verifier, owner: &Bytes)
     verifier_fits(verifier);
 }
 
-#[tactic(auto, unfolding(n41_args::specs::Args::told_arg, n41_session_args::specs::Sessions::create_session, n41_session_args::specs::Sessions::channel, n41_session_args::specs::Security::securities, n41_session_args::specs::Security::callback_security))]
+#[tactic(auto, unfolding(n41_args::specs::Args::told_arg, n41_session_args::specs::Sessions::create_session, n41_shared::specs::Sessions::channel, n41_session_args::specs::Security::securities, n41_session_args::specs::Security::callback_security))]
 pub(crate) fn create_session_fits(client: u64, seq: u32)
     ensures { AllFit (args_of (Plan.CreateSession client seq)) }
 {}
@@ -91,7 +91,7 @@ pub(crate) fn list_fits(at: &Place, cookie: u64, verf: &Verifier, max: u32)
     verifier_fits(verf);
 }
 
-#[tactic(auto, unfolding(n41_args::specs::Args::told_arg, n41_args::specs::Locks::lock_test, n41_args::specs::Locks::lock_type))]
+#[tactic(auto, unfolding(n41_args::specs::Args::told_arg, n41_args::specs::Locks::lock_test, n41_shared::specs::Locks::lock_type))]
 pub(crate) fn test_lock_fits(fh: &Fh, kind: LockKind, span: Span, owner: &Owner)
     ensures { AllFit (args_of (Plan.TestLock fh.now kind span owner.now)) }
 {
@@ -155,7 +155,7 @@ pub(crate) fn close_fits(fh: &Fh, stateid: &Stateid)
     stateid_fits(stateid);
 }
 
-#[tactic(auto, unfolding(n41_args::specs::Args::told_arg, n41_args::specs::Locks::lock, n41_args::specs::Locks::lock_type))]
+#[tactic(auto, unfolding(n41_args::specs::Args::told_arg, n41_args::specs::Locks::lock, n41_shared::specs::Locks::lock_type))]
 pub(crate) fn lock_fits(fh: &Fh, kind: LockKind, span: Span, reclaim: bool, locker: &Locker)
     ensures { AllFit (args_of (Plan.LockBytes fh.now kind span reclaim locker.now)) }
 {
@@ -168,7 +168,7 @@ pub(crate) fn lock_fits(fh: &Fh, kind: LockKind, span: Span, reclaim: bool, lock
     }
 }
 
-#[tactic(auto, unfolding(n41_args::specs::Args::told_arg, n41_args::specs::Locks::unlock, n41_args::specs::Locks::lock_type))]
+#[tactic(auto, unfolding(n41_args::specs::Args::told_arg, n41_args::specs::Locks::unlock, n41_shared::specs::Locks::lock_type))]
 pub(crate) fn unlock_fits(fh: &Fh, span: Span, stateid: &Stateid)
     ensures { AllFit (args_of (Plan.UnlockBytes fh.now span stateid.now)) }
 {

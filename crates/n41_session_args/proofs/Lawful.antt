@@ -1,17 +1,18 @@
 -- What the operations of client ids and sessions take is lawful.
-use Rattle.std.proofs.Common.{◌≡◌, ◌≤◌, ◌<◌, ◌^◌, ℕ, ltb, List, ◌++◌, length, Result, Ok, Err, refl}
+use Rattle.std.proofs.Common.{ℕ, ltb, List, length, refl}
 use Rattle.std.proofs.lemmas.Bool.{ltb-false, le-ltb}
 use Rattle.n41_xdr.specs.declared.fault.XdrFault.TheVariants.{TooLong}
-use Rattle.n41_xdr.specs.Format.{Format, dependent, many, nothing}
+use Rattle.n41_xdr.specs.Format.{Format, dependent, many}
 use Rattle.n41_xdr.specs.Lawful.{IsLawful}
-use Rattle.n41_xdr.proofs.Lawful.{same_lawful, both_lawful, dependent_lawful, mapped_lawful, nothing_lawful, list_lawful, many_lawful, option_lawful, row_lawful, made_again, union_lawful, unless, unless_lawful}
+use Rattle.n41_xdr.proofs.Lawful.{same_lawful, both_lawful, dependent_lawful, mapped_lawful, nothing_lawful, list_lawful, many_lawful, row_lawful, made_again, union_lawful, unless, unless_lawful}
 use Rattle.n41_attr.specs.declared.fault.OpFault.{OpFault}
 use Rattle.n41_attr.specs.declared.fault.OpFault.TheVariants.{Xdr}
 use Rattle.n41_attr.specs.Parts.{word, bad_arm}
-use Rattle.n41_attr.proofs.PartsLawful.{word_lawful, hyper_lawful, flag_lawful, fixed_lawful, opaque_lawful, string_lawful, owner_bytes_lawful, verifier_lawful, zero_lawful, session_lawful}
+use Rattle.n41_attr.proofs.PartsLawful.{word_lawful, hyper_lawful, flag_lawful, opaque_lawful, owner_bytes_lawful, verifier_lawful, zero_lawful, session_lawful}
 use Rattle.n41_session_args.specs.declared.security.Security.TheVariants as security
 use Rattle.n41_session_args.specs.Security.{at_most, gids, system_auth, security_arm, security_rows, callback_security, securities}
-use Rattle.n41_session_args.specs.Sessions.{channel, impl_id, impl_option, exchange_id, create_session, bind, sequence}
+use Rattle.n41_shared.proofs.Lawful.{channel_lawful, impl_option_lawful}
+use Rattle.n41_session_args.specs.Sessions.{exchange_id, create_session, bind, sequence}
 
 abbrev counted : {A : Type 0} → ℕ → Format OpFault A → Format OpFault (List A)
 counted max p = dependent word (λ xs. length xs) (λ n. unless (ltb max n) (Xdr (TooLong n max)) (many p n))
@@ -47,20 +48,6 @@ callback_security_lawful =
 securities_lawful : IsLawful securities
 unfolding securities
 securities_lawful = list_lawful _ _ callback_security_lawful
-
-channel_lawful : IsLawful channel
-unfolding channel
-channel_lawful =
-    mapped_lawful _ _ _ (λ _. refl) (λ _. refl)
-    (both_lawful _ _ word_lawful (both_lawful _ _ word_lawful (both_lawful _ _ word_lawful (both_lawful _ _ word_lawful (both_lawful _ _ word_lawful (both_lawful _ _ word_lawful (option_lawful _ _ word_lawful)))))))
-
-impl_id_lawful : IsLawful impl_id
-unfolding impl_id
-impl_id_lawful = mapped_lawful _ _ _ (λ _. refl) (λ _. refl) (both_lawful _ _ string_lawful (both_lawful _ _ string_lawful (both_lawful _ _ (fixed_lawful 8) word_lawful)))
-
-impl_option_lawful : IsLawful impl_option
-unfolding impl_option
-impl_option_lawful = option_lawful _ _ impl_id_lawful
 
 pub exchange_id_lawful : IsLawful exchange_id
 unfolding exchange_id
