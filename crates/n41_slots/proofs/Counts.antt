@@ -20,8 +20,8 @@ count_most (s ∷ ss) = let e = count_most ss in let o = one_most s.request in o
 
 pub count_idle : (us : List ℕ) → count (map idle us) ≡ 0
 count_idle [] = refl
-count_idle (u ∷ us) = count_idle us
+count_idle (u ∷ us) = let e = count_idle us in omega arith
 
 pub count_new : (n : ℕ) → count (replicate n (idle 0)) ≡ 0
 count_new zero = refl
-count_new (suc n) = count_new n
+count_new (suc n) = let e = count_new n in omega arith

@@ -81,6 +81,15 @@ impl Slot {
         self.request.is_none() && self.used < u32::MAX
     }
 
+    /// Puts a request on it, with the next turn.
+    fn hold(&mut self, request: Request)
+        requires { self.old.used < 4294967295 }
+        ensures { self.new ≡ record { used = self.old.used + 1; request = Some request } }
+    {
+        self.used += 1;
+        drop(self.request.replace(request));
+    }
+
     /// Takes the request off. A turn that was not used is given back.
     fn leave(&mut self, used: bool) -> Option<Request>
         ensures value { result ≡ self.old.request }
@@ -183,7 +192,6 @@ impl Slots {
             return Err(plan);
         };
         let number = n as u32;
-        let turn = self.slots[n].used + 1;
         let request = Request {
             xid,
             uid,
@@ -192,16 +200,13 @@ impl Slots {
             slot: Some(SlotUse {
                 sid: self.sid,
                 slot: number,
-                turn,
+                turn: self.slots[n].used + 1,
                 highest: highest(&self.slots, number),
                 cache: plan.is_cached(),
             }),
             plan,
         };
-        self.slots[n] = Slot {
-            used: turn,
-            request: Some(request),
-        };
+        self.slots[n].hold(request);
         self.out += 1;
         Ok(number)
     }
