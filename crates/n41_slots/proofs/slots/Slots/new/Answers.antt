@@ -1,7 +1,14 @@
-use Rattle.std.proofs.Common.{arith, ap}
+use Rattle.std.proofs.Common.{◌≡◌, List, length, ap, sym, ◌∙◌, arith}
 use Rattle.std.proofs.lemmas.List.{length-replicate}
+use Rattle.n41_slots.specs.declared.slots.Slot.{Slot}
+use Rattle.n41_slots.specs.Slots.{count, idle}
 use Rattle.n41_slots.proofs.Counts.{count_new}
 use Rattle.n41_slots.proofs.slots.Slots.new.Goals as goal
 
 pub invariant_of-result : goal.invariant_of-result
-invariant_of-result c = ?
+invariant_of-result c =
+    let e = c.in_ok-new_slots.ensures in
+    let l = ap (λ (ss : List Slot). length ss) e ∙ length-replicate c.args.n (idle 0) in
+    let s = c.requires.some in
+    let f = c.requires.few in
+    record { some = omega arith; few = omega arith; counted = sym (ap (λ (ss : List Slot). count ss) e ∙ count_new c.args.n) }
