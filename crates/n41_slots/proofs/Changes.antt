@@ -1,11 +1,11 @@
 -- One slot changes.
-use Rattle.std.proofs.Common.{◌≡◌, ℕ, zero, suc, ◌+◌, ◌-◌, ◌<◌, ◌≤◌, length, List, [], ◌∷◌, Bool, true, set, get_or, slice_get, Option, Some, None, refl, sym, ◌∙◌, arith, ◌&&◌, nat_lt}
+use Rattle.std.proofs.Common.{◌≡◌, ℕ, zero, suc, ◌+◌, ◌-◌, ◌<◌, ◌≤◌, length, List, [], ◌∷◌, Bool, true, set, get_or, slice_get, Option, Some, None, refl, arith, ◌&&◌, nat_lt}
 use Rattle.std.specs.Prelude.{is_none}
 use Rattle.std.proofs.lemmas.Option.{slice_get_read}
 use Rattle.n41_types.specs.Plans.{class_of, is_cached}
 use Rattle.n41_types.specs.declared.plans.Request.{Request}
 use Rattle.n41_slots.specs.declared.slots.Slot.{Slot}
-use Rattle.n41_slots.specs.Slots.{Table, Asked, is_free, request_at, ones, count, highest_from, made, taken, left, released}
+use Rattle.n41_slots.specs.Slots.{Table, Asked, is_free, request_at, ones, count, highest_from, taken, left, released}
 use Rattle.n41_slots.proofs.Counts.{count_set}
 
 -- a slot that is free is one of these

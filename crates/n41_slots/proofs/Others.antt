@@ -1,5 +1,5 @@
 -- What a change of one slot leaves.
-use Rattle.std.proofs.Common.{◌≡◌, ◌≢◌, ℕ, zero, suc, ◌+◌, ◌<◌, Bool, List, [], ◌∷◌, set, slice_get, Option, Some, None, refl, ap}
+use Rattle.std.proofs.Common.{◌≡◌, ◌≢◌, ℕ, zero, suc, ◌+◌, Bool, List, [], ◌∷◌, set, slice_get, Option, Some, None, refl, ap}
 use Rattle.n41_slots.specs.declared.slots.Slot.{Slot}
 use Rattle.n41_slots.specs.Slots.{Table, Asked, made, taken, taken_on, left, released, released_on}
 

@@ -1,4 +1,4 @@
-use Rattle.std.proofs.Common.{◌≡◌, List, length, ap, sym, ◌∙◌, arith}
+use Rattle.std.proofs.Common.{List, length, ap, sym, ◌∙◌, arith}
 use Rattle.std.proofs.lemmas.List.{length-map}
 use Rattle.n41_slots.specs.declared.slots.Slot.{Slot}
 use Rattle.n41_slots.specs.Slots.{count, idle}

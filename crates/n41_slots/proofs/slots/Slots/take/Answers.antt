@@ -1,6 +1,6 @@
-use Rattle.std.proofs.Common.{◌≡◌, ◌<◌, ◌+◌, length, true, slice_get, arith}
+use Rattle.std.proofs.Common.{◌≡◌, true, slice_get, arith}
 use Rattle.std.proofs.lemmas.List.{length-set}
-use Rattle.n41_slots.specs.Slots.{is_free, count}
+use Rattle.n41_slots.specs.Slots.{is_free}
 use Rattle.n41_slots.proofs.Counts.{count_most}
 use Rattle.n41_slots.proofs.Changes.{free_within, count_taken, taken_is}
 use Rattle.n41_slots.proofs.slots.Slots.take.Goals as goal
