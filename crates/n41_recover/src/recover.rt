@@ -13,7 +13,7 @@ use n41_types::{Plan, Request};
 use std::marker::Model;
 
 /// The phase of recovery, and what is kept to tell it. It takes no memory.
-#[derive(Clone, Copy)]
+#[derive(Drop)]
 pub struct Recover {
     phase: Phase,
     work: Phase,

@@ -1,5 +1,6 @@
-ghost use Rattle.std.specs.Prelude.{◌≡◌, None, true};
+ghost use Rattle.std.specs.Prelude.{◌≡◌, None, true, option_copied};
 ghost use Rattle.n41_model.specs.Replies.{is_size_refusal, bare_verdict_of};
+ghost use Rattle.n41_model.specs.Sessions.{plan_in};
 ghost use Rattle.n41_view.specs.Step.{reply_phase};
 ghost use Rattle.n41_recover.specs.Step.{kind_verdict, told_run, told_refusal, told_verdict, has_lone, lone_said, slot_said, plan_said};
 
@@ -135,6 +136,14 @@ fn lease_request() -> Request
     }
 }
 
+/// The request, where it is to be looked at.
+fn lease_of(is_lease: bool, request: &Request) -> Option<&Request>
+    requires { request.now.plan ≡ plan_said true }
+    ensures { plan_in (option_copied result) ≡ plan_said is_lease }
+{
+    if is_lease { Some(request) } else { None }
+}
+
 /// The phase after a reply that says this; `is_lease` tells that it answers the request for the lease time.
 pub(crate) fn told_phase(
     bare: Option<BareVerdict>,
@@ -149,7 +158,7 @@ pub(crate) fn told_phase(
     let said = Said {
         bare,
         slot,
-        request: if is_lease { Some(&request) } else { None },
+        request: lease_of(is_lease, &request),
         owner: None,
     };
     reply_phase(&said, phase, work)

@@ -1,5 +1,5 @@
 /// Which of the plans without a slot.
-#[derive(Clone, Copy, Debug, PartialEq, Eq)]
+#[derive(Clone, Copy)]
 pub enum Kind {
     ExchangeId,
     CreateSession,
@@ -11,7 +11,7 @@ pub enum Kind {
 }
 
 /// A request without a slot that is out.
-#[derive(Clone, Copy, Debug, PartialEq, Eq)]
+#[derive(Clone, Copy)]
 pub struct Lone {
     pub xid: u32,
     pub kind: Kind,
