@@ -14,10 +14,10 @@ fn post(drain: &mut Drain, caller: u32) -> bool {
 
 /// Whose call leaves next.
 fn next_caller(drain: &mut Drain) -> Option<u32> {
-    match drain.next_ready() {
-        None => None,
-        Some(waiting) => Some(waiting.caller),
-    }
+    let waiting = drain.next_ready()?;
+    let caller = waiting.caller;
+    drop(waiting);
+    Some(caller)
 }
 
 /// A shut gate behind which these callers wait.

@@ -1,5 +1,5 @@
 -- At most one request for the lease time is out: the one whose xid is kept.
-use Rattle.std.proofs.Common.{◌≡◌, inl, inr, ℕ, zero, suc, ◌+◌, ◌<◌, ◌≤◌, ◌==◌, Bool, true, false, ◌&&◌, ◌||◌, not, List, [], ◌∷◌, Option, Some, None, if◌then◌else◌, refl, sym, ◌∙◌, ap, subst, arith}
+use Rattle.std.proofs.Common.{◌≡◌, ℕ, zero, suc, ◌+◌, ◌<◌, ◌≤◌, ◌==◌, Bool, true, false, ◌&&◌, ◌||◌, not, List, [], ◌∷◌, Option, Some, None, if◌then◌else◌, refl, sym, ◌∙◌, ap, subst, arith}
 use Rattle.std.proofs.lemmas.Bool.Decides.{nat_tests}
 use Rattle.std.specs.Prelude.{is_none}
 use Rattle.n41_types.specs.declared.commands.Command.{Command}
@@ -16,11 +16,11 @@ use Rattle.n41_model.specs.declared.words.Item.{Item}
 use Rattle.n41_model.specs.declared.words.Item.TheVariants as item
 use Rattle.n41_model.specs.declared.words.Setup.{Setup}
 use Rattle.n41_model.specs.Replies.{is_final}
-use Rattle.n41_model.specs.Requests.{outs, out, bares, bare, bare_waits, moment, made, is_on, is_bare, first, has_xid}
+use Rattle.n41_model.specs.Requests.{outs, out, bares, bare, bare_waits, moment, made, is_on, is_bare, has_xid}
 use Rattle.n41_model.specs.Sessions.{session, slots, free_slot, next_xid, phase, put_off, passed, is_lease_time, is_empty}
 use Rattle.n41_model.specs.Calls.{command, next_plan, owner}
 use Rattle.n41_model.specs.Kept.{Kept, May}
-use Rattle.n41_model.specs.Due.{due, item_due, only_if, with_plan, on_free, on_free_slot, bare_with, bare_due, step_plan, own_plan, destroy_plan, finishing, own_from, any_own, may_retry, may_step, may_own, may_begin, may_destroy, is_open}
+use Rattle.n41_model.specs.Due.{item_due, with_plan, on_free, on_free_slot, bare_with, bare_due, step_plan, own_plan, destroy_plan, finishing, own_from, any_own, may_retry, may_step, may_own, may_begin, may_destroy, is_open}
 use Rattle.n41_model.proofs.Slots.{Seats, seats}
 use Rattle.n41_model.proofs.Tests.{only_if_some, with_plan_some}
 use Rattle.n41_view.proofs.Lists.{empty_is_none, first_bare}

@@ -1,13 +1,12 @@
 -- The request with the xid that is kept asks for the lease time.
-use Rattle.std.proofs.Common.{◌≡◌, ℕ, ◌==◌, Bool, true, false, ◌&&◌, not, List, [], ◌∷◌, Option, Some, None, if◌then◌else◌, refl, sym, ◌∙◌, ap, subst, arith}
+use Rattle.std.proofs.Common.{◌≡◌, ℕ, ◌==◌, Bool, true, false, ◌&&◌, List, [], ◌∷◌, Option, Some, None, if◌then◌else◌, refl, ◌∙◌, ap, arith}
 use Rattle.std.proofs.lemmas.Bool.Decides.{nat_tests}
 use Rattle.n41_types.specs.declared.plans.Request.{Request}
-use Rattle.n41_results.specs.declared.replies.Reply.{Reply}
 use Rattle.n41_journal.specs.declared.events.Event.{Event}
 use Rattle.n41_journal.specs.declared.events.Event.TheVariants.{Began, Put, Took, CbTook, CbPut, Dialed, DialFailed, Broke, Ticked, Answered, Quit}
 use Rattle.n41_model.specs.Replies.{is_final}
 use Rattle.n41_model.specs.Requests.{request}
-use Rattle.n41_recover.specs.Recovery.{is_lease, is_xid, put_lease, took_lease, lease}
+use Rattle.n41_recover.specs.Recovery.{is_lease, is_xid, lease}
 
 abbrev pub leases : Option Request → Bool
 leases None = false

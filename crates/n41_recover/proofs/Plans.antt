@@ -1,8 +1,7 @@
 -- What plans, commands and replies tell.
-use Rattle.std.proofs.Common.{◌≡◌, ℕ, zero, suc, Bool, true, false, ◌&&◌, not, List, [], ◌∷◌, Option, Some, None, Ok, Err, if◌then◌else◌, refl, sym, ◌∙◌, ap}
+use Rattle.std.proofs.Common.{◌≡◌, ℕ, zero, suc, Bool, true, false, ◌&&◌, not, List, [], ◌∷◌, Option, Some, None, Ok, Err, if◌then◌else◌, refl, ◌∙◌, ap}
 use Rattle.n41_types.specs.declared.commands.Command.{Command}
 use Rattle.n41_types.specs.declared.commands.Command.TheVariants as asks
-use Rattle.n41_types.specs.declared.plans.Place.TheVariants.{Root}
 use Rattle.n41_types.specs.declared.plans.Plan.{Plan}
 use Rattle.n41_types.specs.declared.plans.Plan.TheVariants as plan
 use Rattle.n41_types.specs.declared.plans.Request.{Request}
@@ -17,12 +16,12 @@ use Rattle.n41_model.specs.declared.words.Phase.{Phase}
 use Rattle.n41_model.specs.declared.words.Phase.TheVariants.{Down, Binding, Session, ClientId, Settling, Reclaiming, Completing, Running, Dead}
 use Rattle.n41_model.specs.declared.words.Verdict.{Verdict}
 use Rattle.n41_model.specs.declared.words.Verdict.TheVariants as v
-use Rattle.n41_model.specs.Replies.{is_breach, is_ok, is_delay, is_not_bound, is_uncached, is_size_refusal, is_reading, has_its_answer, repeats, ran_verdict, uncached_verdict, sequenced_verdict, refused_verdict, body_verdict, bare_body_verdict}
+use Rattle.n41_model.specs.Replies.{is_breach, is_ok, is_delay, is_not_bound, is_uncached, is_size_refusal, is_reading, has_its_answer, repeats, sequenced_verdict, body_verdict, bare_body_verdict}
 use Rattle.n41_model.specs.Requests.{moment}
 use Rattle.n41_model.specs.Sessions.{is_lease_time, slot_phase}
 use Rattle.n41_model.specs.Calls.{Call, command, next_plan, is_plan, is_ready_call, chosen, sooner, in_running}
 use Rattle.n41_recover.specs.Recovery.{kind_of}
-use Rattle.n41_recover.specs.Step.{kind_verdict, told_run, told_refusal, told_verdict}
+use Rattle.n41_recover.specs.Step.{kind_verdict, told_run, told_verdict}
 
 -- ---- plans
 

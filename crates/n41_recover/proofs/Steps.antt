@@ -1,16 +1,14 @@
 -- Each event that may follow moves what is kept of a journal by the step.
-use Rattle.std.proofs.Common.{◌≡◌, inl, inr, ℕ, ◌+◌, ◌==◌, Bool, true, false, ◌&&◌, not, List, [], ◌∷◌, Option, Some, None, if◌then◌else◌, refl, sym, ◌∙◌, ap, subst, arith}
+use Rattle.std.proofs.Common.{◌≡◌, inl, inr, ℕ, ◌==◌, Bool, true, false, not, List, ◌∷◌, Option, Some, None, if◌then◌else◌, refl, sym, ◌∙◌, ap, subst, arith}
 use Rattle.std.proofs.lemmas.Bool.Decides.{nat_tests}
 use Rattle.n41_types.specs.declared.plans.Plan.{Plan}
 use Rattle.n41_types.specs.declared.plans.Request.{Request}
 use Rattle.n41_types.specs.declared.plans.SlotUse.{SlotUse}
 use Rattle.n41_results.specs.declared.replies.Reply.{Reply}
-use Rattle.n41_results.specs.declared.sessions.SessionMade.{SessionMade}
 use Rattle.n41_journal.specs.declared.events.Event.{Event}
 use Rattle.n41_journal.specs.declared.events.Event.TheVariants.{Began, Put, Took, CbTook, CbPut, Dialed, DialFailed, Broke, Ticked, Answered, Quit}
 use Rattle.n41_model.specs.declared.words.BareVerdict.{BareVerdict}
 use Rattle.n41_model.specs.declared.words.BareVerdict.TheVariants as b
-use Rattle.n41_model.specs.declared.words.KnownClient.{KnownClient}
 use Rattle.n41_model.specs.declared.words.Phase.{Phase}
 use Rattle.n41_model.specs.declared.words.Phase.TheVariants.{Down, Binding, Session, ClientId, Settling, Reclaiming, Completing, Running, Dead}
 use Rattle.n41_model.specs.declared.words.Setup.{Setup}
@@ -19,7 +17,7 @@ use Rattle.n41_model.specs.declared.words.Verdict.TheVariants as v
 use Rattle.n41_model.specs.Answers.{breaks}
 use Rattle.n41_model.specs.Kept.{Kept, May, MayTake, IsAwaited}
 use Rattle.n41_model.specs.Replies.{is_breach, is_bare_breach, verdict_of, bare_verdict_of}
-use Rattle.n41_model.specs.Requests.{request, bares, bare, outs, out, is_on, is_bare, is_bare_use, has_xid, retried, verdict, bare_verdict}
+use Rattle.n41_model.specs.Requests.{request, bares, bare, outs, out, is_on, is_bare, retried, verdict, bare_verdict}
 use Rattle.n41_model.specs.Sessions.{client, session, phases, took_phase, plan_of, slot_phase, bare_phase, session_after, client_after, worked, is_lease_time}
 use Rattle.n41_model.proofs.Slots.{Seats, seats}
 use Rattle.n41_view.specs.Step.{Said, has, took_bare, reply_phase}

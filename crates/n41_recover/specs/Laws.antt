@@ -1,5 +1,5 @@
 -- The laws of what is kept (own).
-use Rattle.std.specs.Prelude.{◌≡◌, Bool, true, false, List, ◌∷◌, if◌then◌else◌}
+use Rattle.std.specs.Prelude.{◌≡◌, Bool, false, List, ◌∷◌, if◌then◌else◌}
 use Rattle.n41_journal.specs.declared.events.Event.{Event}
 use Rattle.n41_journal.specs.declared.events.Event.TheVariants.{Took}
 use Rattle.n41_model.specs.declared.words.Setup.{Setup}

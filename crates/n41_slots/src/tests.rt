@@ -1,3 +1,5 @@
+ghost use Rattle.std.specs.Prelude.{◌≤◌};
+
 use crate::Slots;
 use n41_types::{NoMemory, Plan, SessionId};
 use std::alloc::Global;
@@ -6,7 +8,10 @@ use std::alloc::Global;
 fn take(slots: &mut Slots, xid: u32) -> Option<u32> {
     match slots.take(1000, 1000, 1, xid, Plan::Renew) {
         Ok(slot) => Some(slot),
-        Err(_plan) => None,
+        Err(plan) => {
+            drop(plan);
+            None
+        }
     }
 }
 
@@ -14,7 +19,10 @@ fn take(slots: &mut Slots, xid: u32) -> Option<u32> {
 fn take_kept(slots: &mut Slots, xid: u32) -> Option<u32> {
     match slots.take(1000, 1000, 1, xid, Plan::Complete) {
         Ok(slot) => Some(slot),
-        Err(_plan) => None,
+        Err(plan) => {
+            drop(plan);
+            None
+        }
     }
 }
 
@@ -26,13 +34,16 @@ fn told(slots: &Slots, slot: u32) -> Option<(u32, u32, bool)> {
 
 /// The xid of the request that leaves a slot.
 fn release(slots: &mut Slots, slot: u32, used: bool) -> Option<u32> {
-    match slots.release(slot, used) {
-        None => None,
-        Some(request) => Some(request.xid),
-    }
+    let request = slots.release(slot, used)?;
+    let xid = request.xid;
+    drop(request);
+    Some(xid)
 }
 
-fn new(alloc: Global, n: u32, target: u32) -> Result<Slots, NoMemory> {
+fn new(alloc: Global, n: u32, target: u32) -> Result<Slots, NoMemory>
+    requires some { 1 ≤ n }
+    requires few { n ≤ 64 }
+{
     Slots::new(alloc, SessionId([1; 16]), n, target)
 }
 
