@@ -1,5 +1,5 @@
 -- Each event that may follow moves what is kept of a journal by the step.
-use Rattle.std.proofs.Common.{◌≡◌, inl, inr, ℕ, ◌==◌, Bool, true, false, not, List, ◌∷◌, Option, Some, None, if◌then◌else◌, refl, sym, ◌∙◌, ap, subst, arith}
+use Rattle.std.proofs.Common.{◌≡◌, inl, inr, ℕ, ◌==◌, Bool, true, false, not, List, [], ◌∷◌, Option, Some, None, if◌then◌else◌, refl, sym, ◌∙◌, ap, subst, arith}
 use Rattle.std.proofs.lemmas.Bool.Decides.{nat_tests}
 use Rattle.n41_types.specs.declared.plans.Plan.{Plan}
 use Rattle.n41_types.specs.declared.plans.Request.{Request}
@@ -27,7 +27,7 @@ use Rattle.n41_view.proofs.Known.{Known, known, put_out_bare}
 use Rattle.n41_view.proofs.Found.{fits_xid, no_use, use_on, found_bare, found_on, not_bare}
 use Rattle.n41_view.proofs.TookStep.{took_bare_is}
 use Rattle.n41_recover.specs.declared.words.Lone.{Lone}
-use Rattle.n41_recover.specs.Laws.{RecoverySteps, after}
+use Rattle.n41_recover.specs.Laws.{RecoverySteps, TellsPhase, after, stepped}
 use Rattle.n41_recover.specs.Recovery.{Recovery, recovery, kind_of, lone_of, lone_in, is_lease, is_xid, lease, took_lease}
 use Rattle.n41_recover.specs.Step.{kind_verdict, told_verdict, has_lone, lone_said, slot_said, plan_said, said, put_lone, took_lone, took, step, dead}
 use Rattle.n41_recover.proofs.Plans.{kind_is, slot_phase_by, body_told}
@@ -242,3 +242,10 @@ event_step u js Quit d h t v = refl
 
 pub recovery_steps : RecoverySteps
 recovery_steps u js e k = event_step u js e k.0 k.1 (seats u js k.0) (known u js k.0)
+
+stepped_is : (u : Setup) (js : List Event) → Kept u js → stepped js ≡ recovery js
+stepped_is u [] k = refl
+stepped_is u (e ∷ js) k = ap (λ (r : Recovery). after js e r) (stepped_is u js k.0) ∙ recovery_steps u js e k
+
+pub tells_phase : TellsPhase
+tells_phase u js k = ap (λ (r : Recovery). r.phase) (stepped_is u js k)

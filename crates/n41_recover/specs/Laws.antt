@@ -1,5 +1,5 @@
 -- The laws of what is kept (own).
-use Rattle.std.specs.Prelude.{◌≡◌, Bool, false, List, ◌∷◌, if◌then◌else◌}
+use Rattle.std.specs.Prelude.{◌≡◌, Bool, false, List, [], ◌∷◌, if◌then◌else◌}
 use Rattle.n41_journal.specs.declared.events.Event.{Event}
 use Rattle.n41_journal.specs.declared.events.Event.TheVariants.{Took}
 use Rattle.n41_model.specs.declared.words.Setup.{Setup}
@@ -23,6 +23,11 @@ after js e r = if is_breach js e then dead (step r e) else step r e
 abbrev pub RecoverySteps : Type 0
 RecoverySteps = (u : Setup) (js : List Event) (e : Event) → Kept u (e ∷ js) → after js e (recovery js) ≡ recovery (e ∷ js)
 
--- and it tells the phase
+-- what is kept once each event of a journal was stepped, the oldest first
+abbrev pub stepped : List Event → Recovery
+stepped [] = recovery []
+stepped (e ∷ js) = after js e (stepped js)
+
+-- and so the phase is that of the journal
 abbrev pub TellsPhase : Type 0
-TellsPhase = (js : List Event) → (recovery js).phase ≡ phase js
+TellsPhase = (u : Setup) (js : List Event) → Kept u js → (stepped js).phase ≡ phase js

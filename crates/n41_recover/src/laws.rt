@@ -5,7 +5,8 @@ pub fn the_recovery_steps()
     ensures { RecoverySteps }
 {}
 
-/// A law: the phase that is kept of a journal is its phase.
+/// A law: once each event of a journal was stepped in order, with `dead` behind a reply that broke the rules, the phase is that of the
+/// journal.
 pub fn recovery_tells_the_phase()
     ensures { TellsPhase }
 {}
