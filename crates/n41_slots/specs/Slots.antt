@@ -3,6 +3,7 @@ use Rattle.std.specs.Prelude.{◌≡◌, ℕ, suc, ◌+◌, ◌-◌, ◌<◌, �
 use Rattle.n41_types.specs.declared.identities.SessionId.{SessionId}
 use Rattle.n41_types.specs.declared.plans.Plan.{Plan}
 use Rattle.n41_types.specs.declared.plans.Request.{Request}
+use Rattle.n41_types.specs.declared.plans.SlotUse.{SlotUse}
 use Rattle.n41_types.specs.Plans.{class_of, is_cached}
 use Rattle.n41_slots.specs.declared.slots.Slot.{Slot}
 
@@ -64,6 +65,15 @@ count (s ∷ ss) = ones s.request + count ss
 abbrev pub highest_from : ℕ → List Slot → ℕ → ℕ
 highest_from n [] h = h
 highest_from n (s ∷ ss) h = highest_from (suc n) ss (if is_none s.request then h else max n h)
+
+-- the session, the slot and the turn that a request tells
+abbrev pub Tells : SessionId → ℕ → ℕ → Option SlotUse → Type 0
+Tells i n u None = ⊥
+Tells i n u (Some k) = (k.sid ≡ i) × (k.slot ≡ n) × (k.turn ≡ u)
+
+-- what is out on each slot tells this session, that slot and the last turn there
+abbrev pub IsPlaced : Table → Type 0
+IsPlaced t = (n : ℕ) (s : Slot) (r : Request) → slice_get t.slots n ≡ Some s → s.request ≡ Some r → Tells t.sid n s.used r.slot
 
 -- ---- what changes
 

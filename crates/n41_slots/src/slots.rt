@@ -1,5 +1,5 @@
 ghost use Rattle.std.specs.Prelude.{◌≡◌, ◌<◌, ◌≤◌, ◌++◌, ◌∷◌, ◌+◌, [], ℕ, None, Some, true, false, IfOk, IfErr, IfSome, IfNone, map, replicate, length, option_copied, slice_get, vec_len};
-ghost use Rattle.n41_slots.specs.Slots.{Table, Asked, IsLowestFree, NoneIsFree, idle, is_free, request_at, ones, count, highest_from, made, taken, left, released};
+ghost use Rattle.n41_slots.specs.Slots.{Table, Asked, IsLowestFree, NoneIsFree, IsPlaced, idle, is_free, request_at, ones, count, highest_from, made, taken, left, released};
 
 use n41_types::{NoMemory, Plan, Request, SessionId, SlotUse};
 use std::alloc::Global;
@@ -211,9 +211,10 @@ impl Slots {
         Ok(number)
     }
 
-    /// The request that is out on a slot.
+    /// The request that is out on a slot. It tells the session, that slot and the last turn there.
     pub fn request(&self, slot: u32) -> Option<&Request>
-        ensures { option_copied result ≡ request_at self.now slot }
+        ensures value { option_copied result ≡ request_at self.now slot }
+        ensures placed { IsPlaced self.now }
     {
         self.slots.get(slot as usize)?.request.as_ref()
     }

@@ -1,7 +1,8 @@
-use Rattle.std.proofs.Common.{◌≡◌, ◌<◌, length, ◌∙◌, arith}
+use Rattle.std.proofs.Common.{◌≡◌, ◌<◌, length, ◌∙◌, arith, subst, sym}
 use Rattle.std.proofs.lemmas.List.{length-set}
-use Rattle.n41_slots.specs.Slots.{ones}
+use Rattle.n41_slots.specs.Slots.{ones, Table, IsPlaced}
 use Rattle.n41_slots.proofs.Changes.{count_left, count_released, released_is, request_is}
+use Rattle.n41_slots.proofs.Placed.{released_placed}
 use Rattle.n41_slots.proofs.slots.Slots.release.Goals as goal
 
 pub overflow_sub-self : goal.overflow_sub-self
@@ -21,7 +22,9 @@ invariant_of-self c =
     let s = c.self.invariant.some in
     let w = c.self.invariant.few in
     let n = c.self.invariant.counted in
-    record { some = omega arith; few = omega arith; counted = omega arith }
+    let t : Table = record { sid = c.self.inside.sid; target = c.self.inside.target; slots = c.self.inside.slots.items } in
+    let q = released_is t c.args.slot c.args.used c.index_mut.result.now c.leave-request.new.self l c.index_mut.ensures.value c.leave-request.ensures.slot in
+    record { some = omega arith; few = omega arith; counted = omega arith; placed = subst (λ (z : Table). IsPlaced z) (sym q) (released_placed t c.args.slot c.args.used l c.self.invariant.placed) }
 
 pub returns-clause-value : goal.returns-clause-value
 returns-clause-value c =

@@ -1,8 +1,9 @@
-use Rattle.std.proofs.Common.{◌≡◌, true, slice_get, arith}
+use Rattle.std.proofs.Common.{◌≡◌, true, slice_get, arith, subst, sym}
 use Rattle.std.proofs.lemmas.List.{length-set}
-use Rattle.n41_slots.specs.Slots.{is_free}
+use Rattle.n41_slots.specs.Slots.{is_free, Table, Asked, IsPlaced}
 use Rattle.n41_slots.proofs.Counts.{count_most}
 use Rattle.n41_slots.proofs.Changes.{free_within, count_taken, taken_is}
+use Rattle.n41_slots.proofs.Placed.{taken_placed}
 use Rattle.n41_slots.proofs.slots.Slots.take.Goals as goal
 
 pub overflow_add-self : goal.overflow_add-self
@@ -20,7 +21,11 @@ invariant_of-self c =
     let s = c.self.invariant.some in
     let w = c.self.invariant.few in
     let n = c.self.invariant.counted in
-    record { some = omega arith; few = omega arith; counted = omega arith }
+    let t : Table = record { sid = c.self.inside.sid; target = c.self.inside.target; slots = c.self.inside.slots.items } in
+    let a : Asked = record { xid = c.args.xid; uid = c.args.uid; gid = c.args.gid; minor = c.args.minor; plan = c.args.plan } in
+    let l = free_within c.self.inside.slots.items c.in-Some.n f in
+    let q = taken_is t c.in-Some.n a c.index.result.now c.index_mut.result.now c.hold.new.self c.highest.result c.is_cached.result l c.index.ensures c.index_mut.ensures.value (rw c.deref.ensures.value at c.highest.ensures) c.is_cached.ensures c.hold.ensures in
+    record { some = omega arith; few = omega arith; counted = omega arith; placed = subst (λ (z : Table). IsPlaced z) (sym q) (taken_placed t c.in-Some.n a l c.self.invariant.placed) }
 
 pub returns-clause-ok : goal.returns-clause-ok
 returns-clause-ok c =
