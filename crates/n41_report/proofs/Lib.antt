@@ -1,3 +1,3 @@
 pub mod Octal
 pub mod Kept
-pub mod Texts
+pub mod Printed
