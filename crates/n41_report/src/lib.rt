@@ -5,6 +5,8 @@ mod answers;
 mod found;
 mod laws;
 mod numbers;
+#[cfg(test)]
+mod tests;
 mod texts;
 mod values;
 

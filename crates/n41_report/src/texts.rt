@@ -28,7 +28,7 @@ fn put_ending(
     breach: Option<u64>,
     answer: Option<&Answer>,
 ) -> Result<(), NoMemory>
-    ensures { OnOk result (out.new.items ≡ out.old.items ++ ending_text breach (option_copied answer)) }
+    ensures { OnOk result (out.new.items ≡ out.old.items ++ ending_text breach (option_copied answer.entry)) }
 {
     match answer {
         Some(answer) => put_answer(alloc, out, answer),
@@ -45,7 +45,7 @@ fn put_line(
     breach: Option<u64>,
     answer: Option<&Answer>,
 ) -> Result<(), NoMemory>
-    ensures { OnOk result (out.new.items ≡ out.old.items ++ line_text place name.now (ending_text breach (option_copied answer))) }
+    ensures { OnOk result (out.new.items ≡ out.old.items ++ line_text place name.now (ending_text breach (option_copied answer.entry))) }
 {
     put_decimal(alloc, out, place)?;
     put(out, " ")?;

@@ -1,7 +1,8 @@
 // The words for what a command gave. Each call adds them at the end of a text.
-ghost use Rattle.std.specs.Prelude.{◌≡◌, ◌++◌, ◌<◌, true, false, codes, OnOk, IfOk, string_bytes};
+ghost use Rattle.std.specs.Prelude.{◌≡◌, ◌++◌, ◌∷◌, [], ◌<◌, ◌/◌, ◌%◌, ◌==◌, ◌||◌, nat_lt, slice_index, false, codes, OnOk, IfOk, string_bytes};
+ghost use Rattle.hex.specs.Hex.{upper_digits};
 ghost use Rattle.std.specs.List.{flat_map};
-ghost use Rattle.std.specs.Fmt.{decimal, digits, digit_glyph};
+ghost use Rattle.std.specs.Fmt.{decimal, digits};
 ghost use Rattle.n41_model.specs.Text.{hex_or_dash, decimal_or_dash, padded, mode_text, name_byte, name_text, end_text, value_text};
 
 use n41_types::{Name, Names, NoMemory, Value};
@@ -51,7 +52,8 @@ fn put_hex(alloc: Global, out: &mut Vec<u8>, bytes: &[u8]) -> Result<(), NoMemor
 fn octal(alloc: Global, mode: u32) -> Result<String, NoMemory>
     ensures { IfOk result (λ text. string_bytes text ≡ padded 4 (digits 8 false mode)) }
 {
-    format!(in alloc; "{mode:04o}")
+    let text = format!(in alloc; "{mode:04o}")?;
+    Ok(text)
 }
 
 /// Adds a mode in octal.
@@ -100,21 +102,32 @@ fn put_data(alloc: Global, out: &mut Vec<u8>, bytes: &[u8], last: bool) -> Resul
 /// The upper hexadecimal digit of a number below 16.
 fn digit_of(number: u8) -> u8
     requires { number < 16 }
-    ensures { result ≡ digit_glyph true number }
+    ensures { result ≡ slice_index upper_digits number }
 {
-    if number < 10 {
-        b'0' + number
-    } else {
-        b'A' + (number - 10)
-    }
+    b"0123456789ABCDEF"[number as usize]
+}
+
+/// Whether a byte of a name is told by two digits.
+fn is_escaped(byte: u8) -> bool
+    ensures { result ≡ (nat_lt byte 33 || nat_lt 126 byte || (byte == 37)) }
+{
+    byte < 0x21 || byte > 0x7e || byte == b'%'
+}
+
+/// Adds a byte as `%` and two digits.
+fn put_escaped(out: &mut Vec<u8>, byte: u8) -> Result<(), NoMemory>
+    ensures { OnOk result (out.new.items ≡ out.old.items ++ 37 ∷ slice_index upper_digits (byte / 16) ∷ slice_index upper_digits (byte % 16) ∷ []) }
+{
+    out.extend_from_slice(&[b'%', digit_of(byte / 16), digit_of(byte % 16)])
 }
 
 /// Adds a byte of a name.
+#[tactic(auto, unfolding(hex::specs::Hex::encode_with))]
 fn put_name_byte(out: &mut Vec<u8>, byte: u8) -> Result<(), NoMemory>
     ensures { OnOk result (out.new.items ≡ out.old.items ++ name_byte byte) }
 {
-    if byte < 0x21 || byte > 0x7e || byte == b'%' {
-        return out.extend_from_slice(&[b'%', digit_of(byte / 16), digit_of(byte % 16)]);
+    if is_escaped(byte) {
+        return put_escaped(out, byte);
     }
     out.extend_from_slice(&[byte])
 }
