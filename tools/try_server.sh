@@ -146,50 +146,35 @@ try_server() {
     report "the server's ids" $? "status $(cat "$state/server.status"), printed '$line', fault '$(cat "$state/server.err")'"
 }
 
-# relay NAME EVERY: starts a relay to the server, which loses every so many records of the server, and waits for its port; what passed is in the folder NAME.wire
-relay() {
-    local turn
-    mkdir -p "$state/$1.wire"
-    python3 "$tools/relay.py" "$state/$1.port" "$server_port" "$2" "$state/$1.wire" 2>"$state/$1.peer" &
-    started+=($!)
-    for turn in $(seq 100); do
-        [ -f "$state/$1.port" ] && return 0
-        sleep 0.05
+# Asks the server for one of nearly everything, while tshark listens where it is installed, and dumps both sides: without a record that is none, and with the
+# operations and statuses that tshark reads.
+try_dump() {
+    local folder=$state/spoken side listener=
+    mkdir -p "$folder"
+    if command -v tshark >/dev/null; then
+        tshark -i lo -f "tcp port $server_port" -w "$folder/capture" -q >"$folder/listener" 2>&1 &
+        listener=$!
+        started+=("$listener")
+        sleep 3
+    fi
+    python3 "$tools/speak.py" "$server_port" "$folder" >"$folder/said" 2>&1
+    report "one of nearly everything" $? "$(head -n 3 "$folder/said")"
+    if [ -n "$listener" ]; then
+        sleep 2
+        kill -INT "$listener"
+        wait_gone "$listener"
+    fi
+    for side in client server; do
+        start "dump-$side" "$folder/$side" dump "$side"
+        [ "$(cat "$state/dump-$side.status")" = 0 ] && [ "$(wc -l <"$state/dump-$side.out")" -gt 20 ] &&
+            [ "$(tail -n 1 "$state/dump-$side.out")" = "rest 0" ] && ! grep -q " bad " "$state/dump-$side.out"
+        report "the dump of what the $side wrote" $? "status $(cat "$state/dump-$side.status"), $(grep -m 1 " bad " "$state/dump-$side.out")"
+        if [ -n "$listener" ]; then
+            python3 "$tools/told.py" "$folder/capture" "$server_port" "$side" >"$folder/$side.told" 2>"$folder/$side.fault" &&
+                diff "$state/dump-$side.out" "$folder/$side.told" >"$folder/$side.diff"
+            report "the same as tshark reads of the $side" $? "$(head -n 4 "$folder/$side.diff" "$folder/$side.fault" 2>/dev/null)"
+        fi
     done
-    echo 1 >"$state/$1.port"
-}
-
-# The first answer of a stat of the root, as the server gives it.
-root="1 a stat type 2 size [0-9]+ fileid [0-9]+ mode 0[0-7]{3}"
-
-try_stat() {
-    relay stat 0
-    echo "a stat /" >"$state/stat.script"
-    start stat "$state/stat.script" run "127.0.0.1:$(cat "$state/stat.port")"
-    [ "$(cat "$state/stat.status")" = 0 ] && [ ! -s "$state/stat.err" ] && [[ $(cat "$state/stat.out") =~ ^$root$ ]]
-    report "a stat of the server's root" $? "status $(cat "$state/stat.status"), printed '$(cat "$state/stat.out")', fault '$(cat "$state/stat.err")'"
-}
-
-# dumped SIDE: dumps what one side of the stat's connection wrote
-dumped() {
-    start "dump-$1" "$state/stat.wire/$1" dump "$1"
-    [ "$(cat "$state/dump-$1.status")" = 0 ] && [ "$(tail -n 1 "$state/dump-$1.out")" = "rest 0" ] && ! grep -q " bad " "$state/dump-$1.out" &&
-        [ "$(wc -l <"$state/dump-$1.out")" -eq 8 ]
-    report "the dump of the $1" $? "status $(cat "$state/dump-$1.status"), printed '$(cat "$state/dump-$1.out")'"
-}
-
-# 64 callers with 50 commands each, while every 40th record of the server is lost with its connection
-try_many() {
-    local caller
-    relay many 40
-    for caller in $(seq 64); do
-        yes "c$caller stat /" | head -n 50
-    done >"$state/many.script"
-    start many "$state/many.script" run "127.0.0.1:$(cat "$state/many.port")"
-    [ "$(cat "$state/many.status")" = 0 ] && [ "$(grep -cE "^[0-9]+ c[0-9]+ stat type 2 " "$state/many.out")" -eq 3200 ] &&
-        [ "$(cat "$state/many.wire/cuts")" -gt 40 ]
-    report "64 callers through $(cat "$state/many.wire/cuts" 2>/dev/null) cuts" $? \
-        "status $(cat "$state/many.status"), $(wc -l <"$state/many.out") lines, fault '$(cat "$state/many.err")'"
 }
 
 try_nobody() {
@@ -213,10 +198,7 @@ silent_pid=$!
 started+=("$silent_pid")
 
 try_server
-try_stat
-dumped client
-dumped server
-try_many
+try_dump
 try_nobody
 answered_by answer answer
 expect answer 0 "$line" ""
