@@ -161,7 +161,7 @@ try_dump() {
     report "one of nearly everything" $? "$(head -n 3 "$folder/said")"
     if [ -n "$listener" ]; then
         sleep 2
-        kill -INT "$listener"
+        kill "$listener"
         wait_gone "$listener"
     fi
     for side in client server; do
