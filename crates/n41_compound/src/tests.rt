@@ -1,0 +1,8 @@
+use super::*;
+use std::test::Fail;
+
+#[test]
+fn nothing(rt: HostRuntime) -> Result<(), Fail> {
+    let _alloc = rt.alloc();
+    Ok(())
+}
