@@ -1,6 +1,6 @@
 -- The parts of plans, as operations tell them; None where no part is told so.
 use Rattle.std.specs.Prelude.{ℕ, ◌==◌, ◌&&◌, nat_lt, if◌then◌else◌, Bool, true, false, List, length, Option, Some, None}
-use Rattle.std.specs.List.{list_any}
+use Rattle.std.specs.List.{list_all}
 use Rattle.n41_types.specs.Spans.{Extent}
 use Rattle.n41_types.specs.declared.plans.Claim.{Claim}
 use Rattle.n41_types.specs.declared.plans.Claim.TheVariants as right
@@ -32,13 +32,13 @@ abbrev pub fh_in : Arg → Option (List ℕ)
 fh_in (arg.PutFh fh) = Some fh
 fh_in _ = None
 
--- whether no name has this byte
-abbrev pub is_bad_byte : ℕ → Bool
-is_bad_byte b = if b == 0 then true else b == 47
+-- whether a name may have this byte
+abbrev pub is_name_byte : ℕ → Bool
+is_name_byte b = if b == 0 then false else if b == 47 then false else true
 
 -- whether bytes are a name
 unfoldable pub is_name : List ℕ → Bool
-is_name bytes = if nat_lt 0 (length bytes) && nat_lt (length bytes) 256 then (if list_any is_bad_byte bytes then false else true) else false
+is_name bytes = nat_lt 0 (length bytes) && nat_lt (length bytes) 256 && list_all is_name_byte bytes
 
 -- the name that bytes are
 abbrev pub name_of : List ℕ → Option (List ℕ)
@@ -55,8 +55,11 @@ kind_in lock_type.Write = Some kind.Write
 kind_in _ = None
 
 -- the length of all ones is to the end (RFC 8881, length4)
+abbrev pub len_of : ℕ → Option ℕ
+len_of length = if length == 18446744073709551615 then None else Some length
+
 abbrev pub span_of : ℕ → ℕ → Extent
-span_of offset length = record { from = offset; len = if length == 18446744073709551615 then None else Some length }
+span_of offset length = record { from = offset; len = len_of length }
 
 -- a claim on a name is no claim of a plan
 abbrev pub claim_in : OpenClaim → Option Claim

@@ -1,0 +1,56 @@
+-- Names, and bytes that are none.
+use Rattle.std.proofs.Common.{◌≡◌, ◌<◌, ◌≤◌, ℕ, Bool, true, false, List, [], length, Option, Some, None, if◌then◌else◌, refl, ap, arith}
+use Rattle.std.specs.List.{list_all, All}
+use Rattle.std.specs.Prelude.{nat_lt, ◌&&◌}
+use Rattle.std.proofs.lemmas.Bool.{lt-ltb, ltb-true, ne_eqb}
+use Rattle.std.proofs.lemmas.List.Sums.{AllPass-from_list_all, list_all-from_AllPass}
+use Rattle.n41_types.specs.Names.{IsName, IsNameByte}
+use Rattle.n41_compound.specs.Parts.{is_name, is_name_byte, name_of}
+use Rattle.n41_compound.proofs.Truths.{and_true, if_some}
+
+name_byte : (b : ℕ) → is_name_byte b ≡ true → IsNameByte b
+name_byte b e =
+    (
+      λ z. let no : is_name_byte b ≡ false = ap is_name_byte z in absurd cc,
+      λ z. let no : is_name_byte b ≡ false = ap is_name_byte z in absurd cc,
+    )
+
+byte_passes : (b : ℕ) → IsNameByte b → is_name_byte b ≡ true
+byte_passes b h = rw (ne_eqb b 0 h.0, ne_eqb b 47 h.1) refl
+
+is_lawful : (bytes : List ℕ) → is_name bytes ≡ true → IsName bytes
+unfolding is_name
+is_lawful bytes e =
+    let a = and_true (nat_lt 0 (length bytes) && nat_lt (length bytes) 256) (list_all is_name_byte bytes) e in
+    let b = and_true (nat_lt 0 (length bytes)) (nat_lt (length bytes) 256) a.0 in
+    let short : length bytes < 256 = ltb-true (length bytes) 256 b.1 in
+    let good = AllPass-from_list_all is_name_byte bytes a.1 in
+    (ltb-true 0 (length bytes) b.0, omega arith, λ k d lt. name_byte _ (good k d lt))
+
+passes : (bytes : List ℕ) → IsName bytes → is_name bytes ≡ true
+unfolding is_name
+passes bytes h =
+    rw (
+      lt-ltb 0 (length bytes) h.0,
+      lt-ltb (length bytes) 256 (omega (arith, h.1)),
+      list_all-from_AllPass is_name_byte bytes (λ k d lt. byte_passes _ (h.2 k d lt)),
+    ) refl
+
+-- a name is found
+pub named : (bytes : List ℕ) → IsName bytes → name_of bytes ≡ Some bytes
+named bytes h = rw (passes bytes h) refl
+
+-- what is found is the bytes, and a name
+pub name_is : (bytes name : List ℕ) → name_of bytes ≡ Some name → (bytes ≡ name) × IsName name
+name_is bytes name e =
+    let t = if_some (is_name bytes) (Some bytes) name e in
+    let same : bytes ≡ name = cc t.1 in
+    (same, rw same at (is_lawful bytes t.0))
+
+nameless : (bytes : List ℕ) (b : Bool) → is_name bytes ≡ b → (IsName bytes → ⊥) → name_of bytes ≡ None
+nameless bytes true e no = absurd (no (is_lawful bytes e))
+nameless bytes false e no = rw e refl
+
+-- bytes that are no name have none
+pub unnamed : (bytes : List ℕ) → (IsName bytes → ⊥) → name_of bytes ≡ None
+unnamed bytes no = nameless bytes (is_name bytes) refl no
