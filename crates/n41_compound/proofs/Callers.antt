@@ -54,6 +54,9 @@ machine_is (a ∷ b ∷ c ∷ d ∷ name) e = absurd cc
 told_whole : (s u g n : ℕ) (name : List ℕ) → s ≡ 0 → name ≡ 110 ∷ 52 ∷ 49 ∷ [] → n ≡ 0 → (let t : Told = (s, (name, (u, (g, n)))) in t) ≡ ids_of u g
 told_whole s u g n name a b c = cc
 
+abbrev pub ids_pair : ℕ → ℕ → ℕ × ℕ
+ids_pair uid gid = (uid, gid)
+
 abbrev as_ids : Result (Told × List ℕ) XdrFault → Option (ℕ × ℕ)
 as_ids (Ok x) = ids_in (Ok (told_ids x.0, x.1))
 as_ids (Err f) = None
@@ -66,8 +69,9 @@ ids_by bytes (Ok x) uid gid fits is e =
     let b = and_true ((x.0.0 == 0) && is_machine x.0.1.0) (x.0.1.1.1.1 == 0) a.0 in
     let d = and_true (x.0.0 == 0) (is_machine x.0.1.0) b.0 in
     let whole = told_whole x.0.0 x.0.1.1.0 x.0.1.1.1.0 x.0.1.1.1.1 x.0.1.0 (eqb-true x.0.0 0 d.0) (machine_is x.0.1.0 d.1) (eqb-true x.0.1.1.1.1 0 b.1) in
-    let u : x.0.1.1.0 ≡ uid = cc t.1 in
-    let g : x.0.1.1.1.0 ≡ gid = cc t.1 in
+    let pair : ids_pair x.0.1.1.0 x.0.1.1.1.0 ≡ ids_pair uid gid = cc t.1 in
+    let u : x.0.1.1.0 ≡ uid = ap (λ (p : ℕ × ℕ). p.0) pair in
+    let g : x.0.1.1.1.0 ≡ gid = ap (λ (p : ℕ × ℕ). p.1) pair in
     let gone : x.1 ≡ [] = nil_from_length x.1 (eqb-true (length x.1) 0 a.1) in
     (ids_lawful.takes bytes x fits is).0.parts
     ∙ ap (λ (rest : List ℕ). ids.spell x.0 ++ rest) gone
@@ -89,7 +93,7 @@ ids_are bytes uid gid fits e = ids_by bytes (ids.read bytes) uid gid fits refl (
 pub ids_again : (uid gid : ℕ) → uid < 2 ^ 32 → gid < 2 ^ 32 → ids_in (made told_ids ids (system.spell (system_of uid gid))) ≡ Some (uid, gid)
 ids_again uid gid u g =
     let read : ids.read (system.spell (system_of uid gid)) ≡ Ok (ids_of uid gid, []) =
-      ap ids.read (sym (same_text uid gid) ∙ sym (append-nil (ids.spell (ids_of uid gid)))) ∙ ids_lawful.again (ids_of uid gid) [] (ids_fit uid gid u g) in
+    ap ids.read (sym (same_text uid gid) ∙ sym (append-nil (ids.spell (ids_of uid gid)))) ∙ ids_lawful.again (ids_of uid gid) [] (ids_fit uid gid u g) in
     as_made (Ok (ids_of uid gid, [])) (system.spell (system_of uid gid)) read
 
 -- ---- the head

@@ -6,3 +6,4 @@ pub mod WalkLoop
 pub mod Callers
 pub mod Whole
 pub mod Seen
+pub mod OneRequest

@@ -1,19 +1,20 @@
 -- Names, and bytes that are none.
-use Rattle.std.proofs.Common.{◌≡◌, ◌<◌, ◌≤◌, ℕ, Bool, true, false, List, [], length, Option, Some, None, if◌then◌else◌, refl, ap, arith}
+use Rattle.std.proofs.Common.{◌≡◌, ◌<◌, ◌≤◌, ℕ, Bool, true, false, List, [], length, Option, Some, None, Result, Ok, Err, if◌then◌else◌, refl, ap, arith}
 use Rattle.std.specs.List.{list_all, All}
 use Rattle.std.specs.Prelude.{nat_lt, ◌&&◌}
 use Rattle.std.proofs.lemmas.Bool.{lt-ltb, ltb-true, ne_eqb}
 use Rattle.std.proofs.lemmas.List.Sums.{AllPass-from_list_all, list_all-from_AllPass}
-use Rattle.n41_types.specs.Names.{IsName, IsNameByte}
+use Rattle.n41_types.specs.Names.{IsName, IsNameByte, NameOf}
+use Rattle.n41_types.specs.declared.names.NameFault.{NameFault}
+use Rattle.n41_types.specs.declared.names.NameFault.TheVariants.{Empty, TooLong, BadByte, NoMemory}
 use Rattle.n41_compound.specs.Parts.{is_name, is_name_byte, name_of}
 use Rattle.n41_compound.proofs.Truths.{and_true, if_some}
 
 name_byte : (b : ℕ) → is_name_byte b ≡ true → IsNameByte b
-name_byte b e =
-    (
-      λ z. let no : is_name_byte b ≡ false = ap is_name_byte z in absurd cc,
-      λ z. let no : is_name_byte b ≡ false = ap is_name_byte z in absurd cc,
-    )
+name_byte b e = (
+  λ z. let fails : is_name_byte b ≡ false = ap is_name_byte z in absurd cc,
+  λ z. let fails : is_name_byte b ≡ false = ap is_name_byte z in absurd cc,
+)
 
 byte_passes : (b : ℕ) → IsNameByte b → is_name_byte b ≡ true
 byte_passes b h = rw (ne_eqb b 0 h.0, ne_eqb b 47 h.1) refl
@@ -48,9 +49,16 @@ name_is bytes name e =
     (same, rw same at (is_lawful bytes t.0))
 
 nameless : (bytes : List ℕ) (b : Bool) → is_name bytes ≡ b → (IsName bytes → ⊥) → name_of bytes ≡ None
-nameless bytes true e no = absurd (no (is_lawful bytes e))
-nameless bytes false e no = rw e refl
+nameless bytes true e wrong = absurd (wrong (is_lawful bytes e))
+nameless bytes false e wrong = rw e refl
 
 -- bytes that are no name have none
 pub unnamed : (bytes : List ℕ) → (IsName bytes → ⊥) → name_of bytes ≡ None
-unnamed bytes no = nameless bytes (is_name bytes) refl no
+unnamed bytes wrong = nameless bytes (is_name bytes) refl wrong
+
+-- what is told of bytes that are no name
+pub faulty : (bytes : List ℕ) (f : NameFault) → NameOf bytes (Err f) → (f ≡ NoMemory → ⊥) → name_of bytes ≡ None
+faulty bytes Empty is wrong = unnamed bytes (λ n. omega (arith, ap length is, n.0))
+faulty bytes (TooLong n) is wrong = unnamed bytes (λ m. omega (arith, m.1, is.0, is.1))
+faulty bytes (BadByte p) is wrong = unnamed bytes (λ m. is.1.2 (m.2 p 0 is.1.0))
+faulty bytes NoMemory is wrong = absurd (wrong refl)

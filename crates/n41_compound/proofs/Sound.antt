@@ -89,7 +89,7 @@ wire_is : (n : ℕ) → n ≡ length_on_wire (len_of n)
 wire_is n =
     elim (cases_eq n 18446744073709551615) [
       | inl is ↦ rw (eq-eqb n 18446744073709551615 is) is
-      | inr no ↦ rw (ne_eqb n 18446744073709551615 no) refl
+      | inr differs ↦ rw (ne_eqb n 18446744073709551615 differs) refl
     ]
 
 owner_is : (o : StateOwner) → (o.client == 0) ≡ true → o ≡ owner_of o.owner
@@ -183,7 +183,7 @@ bind_is : (a : BindArgs) (p : Plan) → bind_of a ≡ Some p → arg.Bind a ∷ 
 bind_is a p e =
     let t = if_some (a.direction == 1) (if a.rdma then None else Some (plan.Bind a.sid)) p e in
     elim (chosen a.rdma None (Some (plan.Bind a.sid)) (Some p) t.1) [
-      | inl c ↦ absurd (let no : None ≡ Some p = c.1 in cc)
+      | inl c ↦ absurd (cc c.1)
       | inr c ↦ bind_whole a.sid a.direction a.rdma (eqb-true a.direction 1 t.0) c.0 ∙ is_plan (plan.Bind a.sid) p c.1
     ]
 
@@ -227,11 +227,11 @@ look_is : (p : Arg) (mask : List ℕ) (q : Plan) → look_of p mask ≡ Some q �
 look_is p mask q e =
     elim (chosen (is_stat_mask mask) (stat_at (place_in p)) (if is_lease_mask mask then lease_at p else None) (Some q) e) [
       | inl c ↦
-        let t = there (place_in p) stat_at q refl c.1 in
-        behind_put p (put t.0) (arg.GetAttr mask) (arg.GetAttr stat_mask) (place_is p t.0 t.1) (ap (λ (m : List ℕ). arg.GetAttr m) (stat_mask_is mask c.0)) ∙ is_plan (plan.Stat t.0) q t.2
+          let t = there (place_in p) stat_at q refl c.1 in
+          behind_put p (put t.0) (arg.GetAttr mask) (arg.GetAttr stat_mask) (place_is p t.0 t.1) (ap (λ (m : List ℕ). arg.GetAttr m) (stat_mask_is mask c.0)) ∙ is_plan (plan.Stat t.0) q t.2
       | inr c ↦
-        let t = if_some (is_lease_mask mask) (lease_at p) q c.1 in
-        ap (λ (m : List ℕ). p ∷ arg.GetAttr m ∷ []) (lease_mask_is mask t.0) ∙ lease_is p q t.1
+          let t = if_some (is_lease_mask mask) (lease_at p) q c.1 in
+          ap (λ (m : List ℕ). p ∷ arg.GetAttr m ∷ []) (lease_mask_is mask t.0) ∙ lease_is p q t.1
     ]
 
 read_is : (p : Arg) (a : ReadArgs) (q : Plan) → read_at (fh_in p) a ≡ Some q → p ∷ arg.Read a ∷ [] ≡ args_of q

@@ -20,5 +20,5 @@ none_is (Some x) e = absurd (cc)
 
 -- where something is made of what may not be there, it is there
 pub there : {A B : Type 0} (o : Option A) (f : Option A → Option B) (y : B) → f None ≡ None → f o ≡ Some y → (x : A) × (o ≡ Some x) × (f (Some x) ≡ Some y)
-there None f y no e = absurd (cc)
-there (Some x) f y no e = (x, refl, e)
+there None f y nothing e = absurd (cc)
+there (Some x) f y nothing e = (x, refl, e)

@@ -44,15 +44,15 @@ ends args i a names there is last so_far =
     ap (λ (l : List (List ℕ)). let r : Option (List (List ℕ)) = Some l in r) (sym (append-nil names)) ∙ sym (ap (with_names names) here) ∙ so_far
 
 more_behind : (rest : List Arg) → (rest ≡ [] → ⊥) → walked (arg.GetFh ∷ rest) ≡ None
-more_behind [] no = absurd (no refl)
-more_behind (a ∷ rest) no = refl
+more_behind [] wrong = absurd (wrong refl)
+more_behind (a ∷ rest) wrong = refl
 
 -- at GETFH, behind which there is more
 pub goes_past : (args : List Arg) (i : ℕ) (a : Arg) (names : List (List ℕ)) → slice_get args i ≡ Some a → IsStep End a → i + 1 < length args
     → with_names names (walked (drop i args)) ≡ walked args → None ≡ walked args
 goes_past args i a names there is lt so_far =
-    let no : drop (i + 1) args ≡ [] → ⊥ = λ e. omega (arith, ap length e, length-drop {A = Arg} (i + 1) args) in
-    let here : walked (drop i args) ≡ None = ended args a i there is ∙ more_behind (drop (i + 1) args) no in
+    let more : drop (i + 1) args ≡ [] → ⊥ = λ e. omega (arith, ap length e, length-drop {A = Arg} (i + 1) args) in
+    let here : walked (drop i args) ≡ None = ended args a i there is ∙ more_behind (drop (i + 1) args) more in
     sym (ap (with_names names) here) ∙ so_far
 
 -- where all was read

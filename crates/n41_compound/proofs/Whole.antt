@@ -52,7 +52,7 @@ slotted (_ ∷ args) = refl
 
 -- ---- requests
 
-abbrev request : ℕ → ℕ → ℕ → ℕ → Option SlotUse → Plan → Request
+abbrev pub request : ℕ → ℕ → ℕ → ℕ → Option SlotUse → Plan → Request
 request xid uid gid minor slot p = record { xid = xid; uid = uid; gid = gid; minor = minor; slot = slot; plan = p }
 
 -- what is found of a call is what it is spelled from
