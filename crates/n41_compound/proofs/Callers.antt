@@ -1,5 +1,6 @@
 -- The two ids of a caller are those of the body of AUTH_SYS.
 use Rattle.std.proofs.Common.{◌≡◌, ◌<◌, ◌≤◌, ◌^◌, ℕ, Bool, true, false, ◌&&◌, ◌==◌, List, [], ◌∷◌, ◌++◌, length, Option, Some, None, Result, Ok, Err, if◌then◌else◌, refl, sym, ap, subst, ◌∙◌, arith}
+use Rattle.std.specs.Prelude.{IfSome}
 use Rattle.std.proofs.lemmas.Bool.{eqb-true}
 use Rattle.std.proofs.lemmas.List.{append-nil, nil_from_length}
 use Rattle.n41_xdr.specs.declared.fault.XdrFault.{XdrFault}
@@ -121,3 +122,9 @@ is_whole_by c uid gid e = ap is_whole e
 
 pub body_by : (c : CallSeen) (uid gid : ℕ) → IsCallBy c uid gid → c.cred.body ≡ system.spell (system_of uid gid)
 body_by c uid gid e = ap (λ (x : CallSeen). x.cred.body) e
+
+-- what is found of a call whose body has these ids
+pub found_by : (r : Option (ℕ × ℕ)) (c : CallSeen) (body : List ℕ) → is_whole c ≡ true → r ≡ ids_in (made told_ids ids body) → IsBytes body → body ≡ c.cred.body
+    → IfSome r (λ who. IsCallBy c who.0 who.1)
+found_by None c body whole is bytes same = tt
+found_by (Some who) c body whole is bytes same = call_is c who.0 who.1 whole (sym same ∙ ids_are body who.0 who.1 bytes (sym is))

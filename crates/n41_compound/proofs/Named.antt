@@ -1,12 +1,13 @@
 -- Names, and bytes that are none.
-use Rattle.std.proofs.Common.{◌≡◌, ◌<◌, ◌≤◌, ℕ, Bool, true, false, List, [], length, Option, Some, None, Result, Ok, Err, if◌then◌else◌, refl, ap, arith}
+use Rattle.std.proofs.Common.{◌≡◌, ◌<◌, ◌≤◌, ℕ, Bool, true, false, List, [], length, Option, Some, None, Result, Ok, Err, if◌then◌else◌, refl, sym, ap, subst, ◌∙◌, arith}
 use Rattle.std.specs.List.{list_all, All}
-use Rattle.std.specs.Prelude.{nat_lt, ◌&&◌}
+use Rattle.std.specs.Prelude.{nat_lt, ◌&&◌, AllocError, IfOk}
 use Rattle.std.proofs.lemmas.Bool.{lt-ltb, ltb-true, ne_eqb}
 use Rattle.std.proofs.lemmas.List.Sums.{AllPass-from_list_all, list_all-from_AllPass}
 use Rattle.n41_types.specs.Names.{IsName, IsNameByte, NameOf}
 use Rattle.n41_types.specs.declared.names.NameFault.{NameFault}
 use Rattle.n41_types.specs.declared.names.NameFault.TheVariants.{Empty, TooLong, BadByte, NoMemory}
+use Rattle.n41_compound.specs.Nameless.{IsNameless}
 use Rattle.n41_compound.specs.Parts.{is_name, is_name_byte, name_of}
 use Rattle.n41_compound.proofs.Truths.{and_true, if_some}
 
@@ -56,9 +57,19 @@ nameless bytes false e wrong = rw e refl
 pub unnamed : (bytes : List ℕ) → (IsName bytes → ⊥) → name_of bytes ≡ None
 unnamed bytes wrong = nameless bytes (is_name bytes) refl wrong
 
+-- what is found of bytes
+pub name_found : (slice bytes name : List ℕ) → slice ≡ bytes → NameOf slice (Ok name) → Some name ≡ name_of bytes
+name_found slice bytes name same is =
+    subst (λ (b : List ℕ). let r : Option (List ℕ) = Some name in r ≡ name_of b) same
+    (ap (λ (b : List ℕ). let r : Option (List ℕ) = Some b in r) is.0 ∙ sym (named slice is.1))
+
+faulty : (bytes : List ℕ) (f : NameFault) (o : Option (List ℕ)) → NameOf bytes (Err f) → IsNameless f o → o ≡ name_of bytes
+faulty bytes Empty o is none = none ∙ sym (unnamed bytes (λ n. omega (arith, ap length is, n.0)))
+faulty bytes (TooLong n) o is none = none ∙ sym (unnamed bytes (λ m. omega (arith, m.1, is.0, is.1)))
+faulty bytes (BadByte p) o is none = none ∙ sym (unnamed bytes (λ m. is.1.2 (m.2 p 0 is.1.0)))
+faulty bytes NoMemory o is none = absurd none
+
 -- what is told of bytes that are no name
-pub faulty : (bytes : List ℕ) (f : NameFault) → NameOf bytes (Err f) → (f ≡ NoMemory → ⊥) → name_of bytes ≡ None
-faulty bytes Empty is wrong = unnamed bytes (λ n. omega (arith, ap length is, n.0))
-faulty bytes (TooLong n) is wrong = unnamed bytes (λ m. omega (arith, m.1, is.0, is.1))
-faulty bytes (BadByte p) is wrong = unnamed bytes (λ m. is.1.2 (m.2 p 0 is.1.0))
-faulty bytes NoMemory is wrong = absurd (wrong refl)
+pub none_found : (slice bytes : List ℕ) (f : NameFault) (r : Result (Option (List ℕ)) AllocError) → slice ≡ bytes → NameOf slice (Err f) → IfOk r (λ o. IsNameless f o) → IfOk r (λ o. o ≡ name_of bytes)
+none_found slice bytes f (Ok o) same is none = subst (λ (b : List ℕ). o ≡ name_of b) same (faulty slice f o is none)
+none_found slice bytes f (Err e) same is none = tt

@@ -55,6 +55,9 @@ slotted (_ ∷ args) = refl
 abbrev pub request : ℕ → ℕ → ℕ → ℕ → Option SlotUse → Plan → Request
 request xid uid gid minor slot p = record { xid = xid; uid = uid; gid = gid; minor = minor; slot = slot; plan = p }
 
+abbrev pub pair_of : ℕ → ℕ → ℕ × ℕ
+pair_of uid gid = (uid, gid)
+
 -- what is found of a call is what it is spelled from
 pub is_spelled : (c : CallSeen) (uid gid : ℕ) (p : Plan) → IsCallBy c uid gid → plan_of (behind_slot c.list) ≡ Some p → IsSpelledBy c (request c.xid uid gid c.minor (slot_in c.list) p)
 is_spelled c uid gid p by is =
@@ -72,3 +75,34 @@ pub found_again : (c : CallSeen) (q : Request) → IsSpelledBy c q → request c
 found_again c q e =
     ap (λ (x : CallSeen). request x.xid q.uid q.gid x.minor (slot_in x.list) q.plan) e
     ∙ ap (λ (s : Option SlotUse). request q.xid q.uid q.gid q.minor s q.plan) (slot_again q.slot q.plan)
+
+-- ---- what is found
+
+-- the request of a call by these ids, with this plan
+pub found_is : (c : CallSeen) (uid gid : ℕ) (p : Plan) (args behind_it : List Arg) (slot : Option SlotUse) → args ≡ c.list → behind_it ≡ behind_slot args → slot ≡ slot_in args
+    → IsCallBy c uid gid → Some p ≡ plan_of behind_it → IsSpelledBy c (request c.xid uid gid c.minor slot p)
+found_is c uid gid p args behind_it slot same rest at by is =
+    let plan : plan_of (behind_slot c.list) ≡ Some p = sym (is ∙ ap plan_of (rest ∙ ap behind_slot same)) in
+    let here : slot_in c.list ≡ slot = sym (at ∙ ap slot_in same) in
+    is_spelled c uid gid p by plan ∙ ap (λ (s : Option SlotUse). seen_of (request c.xid uid gid c.minor s p)) here
+
+-- a plan that is told is that of the request
+pub told_plan : (c : CallSeen) (q : Request) (o : Option Plan) (args behind_it : List Arg) → args ≡ c.list → behind_it ≡ behind_slot args → o ≡ plan_of behind_it → IsLawful q → IsSpelledBy c q → o ≡ Some q.plan
+told_plan c q o args behind_it same rest is fits e = is ∙ ap plan_of (rest ∙ ap behind_slot same) ∙ plan_found c q fits e
+
+some_pair : (a b x y : ℕ) → pair_of a b ≡ pair_of x y → (a ≡ x) × (b ≡ y)
+some_pair a b x y e = (ap (λ (p : ℕ × ℕ). p.0) e, ap (λ (p : ℕ × ℕ). p.1) e)
+
+-- the request is the one that is found
+pub only_is : (c : CallSeen) (q : Request) (uid gid : ℕ) (p : Plan) (args behind_it : List Arg) (slot : Option SlotUse) → args ≡ c.list → behind_it ≡ behind_slot args → slot ≡ slot_in args
+    → Some (pair_of uid gid) ≡ Some (pair_of q.uid q.gid) → Some p ≡ plan_of behind_it → IsLawful q → IsSpelledBy c q → request c.xid uid gid c.minor slot p ≡ q
+only_is c q uid gid p args behind_it slot same rest at who is fits e =
+    let ids : pair_of uid gid ≡ pair_of q.uid q.gid = cc who in
+    let both = some_pair uid gid q.uid q.gid ids in
+    let told : Some p ≡ Some q.plan = told_plan c q (Some p) args behind_it same rest is fits e in
+    let what : p ≡ q.plan = cc told in
+    let u : uid ≡ q.uid = both.0 in
+    let g : gid ≡ q.gid = both.1 in
+    let here : slot ≡ slot_in c.list = at ∙ ap slot_in same in
+    let all : request c.xid uid gid c.minor slot p ≡ request c.xid q.uid q.gid c.minor (slot_in c.list) q.plan = cc (u, g, here, what) in
+    all ∙ found_again c q e

@@ -7,3 +7,4 @@ pub mod States
 pub mod Changes
 pub mod Walks
 pub mod Plans
+pub mod Nameless

@@ -1,6 +1,7 @@
 //! The parts of plans, as operations tell them; None where no part is told so.
 
 ghost use Rattle.std.specs.Prelude.{◌≡◌, IfOk};
+ghost use Rattle.n41_compound.specs.Nameless.{IsNameless};
 ghost use Rattle.n41_compound.specs.Parts.{claim_in, fh_in, kind_in, locker_in, mode_in, name_of, place_in, span_of};
 
 use n41_args::{Arg, LockerArgs, OpenClaim};
@@ -29,14 +30,23 @@ pub(crate) fn fh_in(arg: &Arg) -> Result<Option<Fh>, NoMemory>
     }
 }
 
+/// What is told of bytes that are no name.
+fn nameless(fault: NameFault) -> Result<Option<Name>, NoMemory>
+    ensures { IfOk result (λ name. IsNameless fault name) }
+{
+    match fault {
+        NameFault::NoMemory => Err(AllocError),
+        NameFault::Empty | NameFault::TooLong(_) | NameFault::BadByte(_) => Ok(None),
+    }
+}
+
 /// The name that bytes are.
 pub(crate) fn name_of(alloc: Global, bytes: &Bytes) -> Result<Option<Name>, NoMemory>
     ensures { IfOk result (λ name. name ≡ name_of bytes.now) }
 {
     match Name::of(alloc, bytes.as_slice()) {
         Ok(name) => Ok(Some(name)),
-        Err(NameFault::NoMemory) => Err(AllocError),
-        Err(_) => Ok(None),
+        Err(fault) => nameless(fault),
     }
 }
 
