@@ -1,7 +1,7 @@
 -- Names, and bytes that are none.
 use Rattle.std.proofs.Common.{◌≡◌, ◌<◌, ◌≤◌, ℕ, Bool, true, false, List, [], length, Option, Some, None, Result, Ok, Err, if◌then◌else◌, refl, sym, ap, subst, ◌∙◌, arith}
 use Rattle.std.specs.List.{list_all, All}
-use Rattle.std.specs.Prelude.{nat_lt, ◌&&◌, AllocError, IfOk}
+use Rattle.std.specs.Prelude.{nat_lt, ◌&&◌, IfOk}
 use Rattle.std.proofs.lemmas.Bool.{lt-ltb, ltb-true, ne_eqb}
 use Rattle.std.proofs.lemmas.List.Sums.{AllPass-from_list_all, list_all-from_AllPass}
 use Rattle.n41_types.specs.Names.{IsName, IsNameByte, NameOf}
@@ -70,6 +70,6 @@ faulty bytes (BadByte p) o is none = none ∙ sym (unnamed bytes (λ m. is.1.2 (
 faulty bytes NoMemory o is none = absurd none
 
 -- what is told of bytes that are no name
-pub none_found : (slice bytes : List ℕ) (f : NameFault) (r : Result (Option (List ℕ)) AllocError) → slice ≡ bytes → NameOf slice (Err f) → IfOk r (λ o. IsNameless f o) → IfOk r (λ o. o ≡ name_of bytes)
+pub none_found : {E : Type 0} (slice bytes : List ℕ) (f : NameFault) (r : Result (Option (List ℕ)) E) → slice ≡ bytes → NameOf slice (Err f) → IfOk r (λ o. IsNameless f o) → IfOk r (λ o. o ≡ name_of bytes)
 none_found slice bytes f (Ok o) same is none = subst (λ (b : List ℕ). o ≡ name_of b) same (faulty slice f o is none)
 none_found slice bytes f (Err e) same is none = tt

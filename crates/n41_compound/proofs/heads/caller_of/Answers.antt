@@ -11,6 +11,6 @@ returns-clause-found c =
 pub returns-clause-only : goal.returns-clause-only
 returns-clause-only c =
     λ uid gid u g by.
-      c.ids_in.ensures.ids
-      ∙ ap (λ (b : List ℕ). ids_in (made told_ids ids b)) (c.as_slice.ensures ∙ body_by c.args.call.now uid gid by)
-      ∙ ids_again uid gid u g
+    c.ids_in.ensures.ids
+    ∙ ap (λ (b : List ℕ). ids_in (made told_ids ids b)) (c.as_slice.ensures ∙ body_by c.args.call.now uid gid by)
+    ∙ ids_again uid gid u g
