@@ -1,7 +1,5 @@
-use Rattle.std.proofs.Common.{◌≡◌, ◌∙◌, List, Option, Some, ap, sym}
-use Rattle.n41_types.specs.declared.plans.Plan.{Plan}
+use Rattle.std.proofs.Common.{◌∙◌, Option, Some, ap, sym}
 use Rattle.n41_types.specs.declared.plans.Request.{Request}
-use Rattle.n41_compound.specs.Plans.{plan_of}
 use Rattle.n41_compound.proofs.Whole.{found_is, only_is, told_plan, called_by}
 use Rattle.n41_compound.proofs.requests.request_of.Goals as goal
 
