@@ -1,5 +1,5 @@
 -- Operations that were read can be written.
-use Rattle.std.proofs.Common.{◌≡◌, ℕ, Bool, true, false, List, Option, Some, None, Result, Ok, Err, refl, ap, subst, arith}
+use Rattle.std.proofs.Common.{◌≡◌, ℕ, Bool, true, false, List, Option, Some, None, Result, Ok, Err, sym, ap, subst, arith}
 use Rattle.n41_xdr.specs.Format.{made}
 use Rattle.n41_xdr.specs.Lawful.{IsBytes, IsLawful}
 use Rattle.n41_xdr.proofs.Lawful.{bind_ok}
@@ -32,6 +32,9 @@ told_again (args.Create a) fits = arg_fits (arg.Create (create_of a)) (fits.1.1.
 told_again (args.Open a) fits = arg_fits (arg.Open (open_of a)) (fits.1.0, fits.1.1.0, fits.1.1.1.0, fits.1.1.1.1.0, how_fits a.how fits.1.1.1.1.1.0, fits.1.1.1.1.1.1)
 told_again (args.SetAttr a) fits = arg_fits (arg.SetAttr (set_attr_of a)) (fits.1.0, attrs_fit a.attrs fits.1.1)
 
+abbrev both : Arg → List ℕ → Arg × List ℕ
+both a rest = (a, rest)
+
 abbrev seen : ToldArg × List ℕ → Result (Arg × List ℕ) OpFault
 seen x = Ok (arg_of x.0, x.1)
 
@@ -39,5 +42,6 @@ seen x = Ok (arg_of x.0, x.1)
 pub read_fits : (bytes : List ℕ) (a : Arg) (rest : List ℕ) → IsBytes bytes → made arg_of told_arg bytes ≡ Ok (a, rest) → told_arg.Fits (written_arg a)
 read_fits bytes a rest fits e =
     let t = bind_ok (told_arg.read bytes) seen (a, rest) e in
-    let same : arg_of t.0.0 ≡ a = cc t.2 in
-    subst (λ (x : Arg). told_arg.Fits (written_arg x)) same (told_again t.0.0 (told_arg_lawful.takes bytes t.0 fits t.1).1)
+    let pair : both a rest ≡ both (arg_of t.0.0) t.0.1 = cc t.2 in
+    let same : a ≡ arg_of t.0.0 = ap (λ (p : Arg × List ℕ). p.0) pair in
+    subst (λ (x : Arg). told_arg.Fits (written_arg x)) (sym same) (told_again t.0.0 (told_arg_lawful.takes bytes t.0 fits t.1).1)
