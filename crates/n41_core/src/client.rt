@@ -3,7 +3,8 @@ ghost use Rattle.n41_types.specs.declared.commands.Answer.{Answer as AnswerValue
 ghost use Rattle.n41_answers.specs.Answers.{HasAnswer};
 ghost use Rattle.n41_model.specs.Calls.{command};
 ghost use Rattle.n41_model.specs.Kept.{Kept, IsOld};
-ghost use Rattle.n41_model.specs.Requests.{standing, moment};
+ghost use Rattle.n41_model.specs.Answers.{breach_at};
+ghost use Rattle.n41_model.specs.Requests.{standing, moment, rounds};
 ghost use Rattle.n41_model.specs.Sessions.{phase};
 ghost use Rattle.n41_core.specs.Causes.{WantCause};
 ghost use Rattle.n41_core.specs.Settled.{IsSettled};
@@ -74,6 +75,20 @@ impl Core {
         ensures { result ≡ phase self.now.events }
     {
         self.books.facts().phase
+    }
+
+    /// The place in the journal of the first reply that broke the rules. None where there is none.
+    pub fn breach(&self) -> Option<u64>
+        ensures { result ≡ breach_at self.now.events }
+    {
+        self.books.facts().breach_at
+    }
+
+    /// How many rounds, up to the last, were in a row without a reply.
+    pub fn rounds(&self) -> u64
+        ensures { result ≡ rounds self.now.events }
+    {
+        self.books.facts().rounds
     }
 
     /// The last moment that the clock showed, in seconds.
