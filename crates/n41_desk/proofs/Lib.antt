@@ -3,4 +3,6 @@ mod Fates
 mod Small
 mod Heard
 mod Linked
+mod Lined
 mod Noted
+mod Acted

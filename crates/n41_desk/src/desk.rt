@@ -42,7 +42,7 @@ where
     D::I: Drop,
     D::O: Drop,
 {
-    ghost use Rattle.n41_desk.specs.Desks.{desk_state, desk_dialer, desk_clock};
+    ghost use Rattle.n41_desk.specs.Desks.{desk_state, desk_dialer, desk_clock, WasQuiet};
 
     /// A desk of a client that has done nothing yet.
     pub fn new(alloc: Global, core: Core, dialer: D, clock: C) -> Desk<D, C>
@@ -119,7 +119,7 @@ where
     /// once, or lets 100 milliseconds pass. It is idle exactly where the core wants nothing. For want of memory nothing is done, save that the
     /// clock's moment may be noted; but where it is wanting for a request that was put, or for what comes, the connection breaks.
     pub fn turn(&mut self, alloc: Global, addr: &str) -> Result<Turn, NoMemory>
-        ensures ok { IfOk result (λ turn. TakesTurn (desk_state self.old) (desk_state self.new) turn) }
+        ensures ok { IfOk result (λ turn. TakesTurn (WasQuiet self.old self.new) (desk_state self.old) (desk_state self.new) turn) }
         ensures err { OnErr result (IsNoted (desk_state self.old) (desk_state self.new)) }
         ensures counts { CountsDials (desk_state self.old).events (desk_state self.new).events (D.faults (desk_dialer self.old)) (D.faults (desk_dialer self.new)) }
         ensures tells { C.tells (desk_clock self.new) ≡ C.tells (desk_clock self.old) }

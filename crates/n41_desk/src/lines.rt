@@ -6,7 +6,7 @@ ghost use Rattle.n41_model.specs.declared.words.Item.{Item as ItemValue};
 ghost use Rattle.n41_model.specs.Due.{due};
 ghost use Rattle.n41_model.specs.Requests.{standing, dials};
 ghost use Rattle.n41_core.specs.State.{appends};
-ghost use Rattle.n41_desk.specs.Lines.{HasLines, HasRoom, in_order};
+ghost use Rattle.n41_desk.specs.Lines.{HasLines, HasRoom, StaysQuiet, in_order};
 ghost use Rattle.n41_desk.specs.Moments.{CountsDials};
 ghost use Rattle.n41_desk.specs.Steps.{Dials, Reads, Sends};
 ghost use Rattle.n41_desk.specs.Wires.{IsNew};
@@ -78,7 +78,7 @@ impl<I: Inflow + Drop, O: Outflow + Drop> Lines<I, O> {
         requires lines { HasLines core.old.events self.old.ended.items self.old.wire }
         requires stands { standing core.old.events ≡ Some conn }
         ensures lines { HasLines core.new.events self.new.ended.items self.new.wire }
-        ensures reads { Reads core.old core.new conn }
+        ensures reads { Reads (StaysQuiet self.old.wire self.new.wire) core.old core.new conn }
     {
         if let Some(mut wire) = self.wire.take() {
             match hear(alloc, core, conn, &mut wire) {
