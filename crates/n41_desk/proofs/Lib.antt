@@ -2,6 +2,7 @@ mod Events
 mod Fates
 mod Small
 mod Heard
+mod Taken
 mod Linked
 mod Lined
 mod Noted

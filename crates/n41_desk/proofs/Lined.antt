@@ -112,7 +112,7 @@ counts_same js ks before now e l = record { later = l; few = inl (omega (arith, 
 pub counts_failed : (js : List Event) (before now : ℕ) → Counts before now true → CountsDials js (DialFailed ∷ js) before now
 counts_failed js before now h = by_case (cases_lt now (2 ^ 64 - 1)) where
   by_case : (now < 2 ^ 64 - 1) ⊎ (2 ^ 64 - 1 ≤ now) → CountsDials js (DialFailed ∷ js) before now
-  by_case (inl l) = record { later = h.later; few = inl (omega (arith, h.rose tt, l)) }
+  by_case (inl l) = record { later = h.later; few = inl (omega (arith, h.rose refl, l)) }
   by_case (inr m) = record { later = h.later; few = inr m }
 
 pub counts_then : (js ks ls : List Event) (a b c : ℕ) → CountsDials js ks a b → CountsDials ks ls b c → CountsDials js ls a c

@@ -96,7 +96,7 @@ reads_old q fate.Broke old new c z t = inr (inr (cause.Old t.0, t.2))
 
 pub reads : (got : Result InGot InFault) (x : Fate) (old new : State) (c a b : ℕ) → Counts a b (in_quiet got) → Follows got x old new c → Reads (Rose a b) old new c
 reads (Ok (Came y)) x old new c a b n t = reads_took (Rose a b) x old new c y.reply t
-reads (Ok Quiet) x old new c a b n t = reads_old (Rose a b) x old new c (n.rose tt) t
+reads (Ok Quiet) x old new c a b n t = reads_old (Rose a b) x old new c (n.rose refl) t
 reads (Ok End) x old new c a b n t = inr (inr (cause.Ended, t.1))
 reads (Err Failed) x old new c a b n t = inr (inr (cause.Link, t.1))
 reads (Err (Gather f)) x old new c a b n t = inr (inr (cause.BadRecord, t.1))
