@@ -1,6 +1,6 @@
 -- What a moment that is noted leaves, and which moments were given.
 use Rattle.std.proofs.Common.{◌≡◌, ◌<◌, ◌≤◌, ℕ, zero, suc, Bool, true, false, List, [], ◌∷◌, ◌++◌, Option, Some, None, IsTrue, inl, inr, ◌⊎◌, if◌then◌else◌, refl, sym, ◌∙◌, ap, subst, arith}
-use Rattle.std.specs.Prelude.{nat_lt}
+use Rattle.std.specs.Prelude.{nat_lt, Result, Ok, Err, OnOk, OnErr}
 use Rattle.std.proofs.lemmas.Bool.Decides.{nat_tests}
 use Rattle.n41_types.specs.declared.commands.Command.{Command}
 use Rattle.n41_journal.specs.declared.events.Event.{Event}
@@ -8,6 +8,7 @@ use Rattle.n41_journal.specs.declared.events.Event.TheVariants.{Began, Put, Took
 use Rattle.n41_model.specs.Answers.{breach_at}
 use Rattle.n41_model.specs.Calls.{number}
 use Rattle.n41_model.specs.Requests.{moment}
+use Rattle.n41_core.specs.Settled.{IsDecided}
 use Rattle.n41_core.specs.State.{State, OnlyAnswers, AddsAnswers, ThenAnswers, met, posted, ticked}
 use Rattle.n41_desk.specs.Journals.{moments}
 use Rattle.n41_desk.specs.Moments.{AreGiven}
@@ -121,3 +122,13 @@ pub grows_posted : (s : State) (c : ℕ) (k : Command) → Grows s.events (poste
 grows_posted s c k =
     let b : State = record { setup = s.setup; events = Began c (suc (number s.events c)) k (moment s.events) ∷ s.events } in
     grows_then s.events b.events (posted s c k).events (record { more = Began c (suc (number s.events c)) k (moment s.events) ∷ []; calm = (tt, tt); are = refl }) (grows_met (breach_at s.events) c b)
+
+-- ---- what a tick answers
+
+pub note_given : {E : Type 0} (r : Result (Unit {0}) E) (old_given given : ℕ → Bool) (old new : State) (m : ℕ) → ((k : ℕ) → IsTrue (old_given k) → IsTrue (given k)) → IsTrue (given m) → AreGiven old_given (moments old.events) → OnOk r ((xs : List Event) × ThenAnswers old.setup (ticked m (moment old.events) old.events) new xs) → OnOk r (IsDecided old.setup.callers new.events) → OnErr r (new ≡ old) → AreGiven given (moments new.events)
+note_given (Ok u) old_given given old new m keeps t g ok decided err = noted_given old_given given old new m ok.0 keeps t g (record { then_is = ok.1; decided = decided })
+note_given (Err e) old_given given old new m keeps t g ok decided err = subst (λ (s : State). AreGiven given (moments s.events)) (sym err) (given_more old_given given (moments old.events) keeps g)
+
+pub note_last : {E : Type 0} (r : Result (Unit {0}) E) (old_given given : ℕ → Bool) (old new : State) (m : ℕ) → ((k : ℕ) → IsTrue (old_given k) → IsTrue (given k)) → IsTrue (given m) → AreGiven old_given (moments old.events) → OnOk r ((xs : List Event) × ThenAnswers old.setup (ticked m (moment old.events) old.events) new xs) → OnOk r (IsDecided old.setup.callers new.events) → OnOk r (IsTrue (given (moment new.events)))
+note_last (Ok u) old_given given old new m keeps t g ok decided = noted_last old_given given old new m ok.0 keeps t g (record { then_is = ok.1; decided = decided })
+note_last (Err e) old_given given old new m keeps t g ok decided = tt

@@ -1,5 +1,5 @@
 -- The connections of a desk: those that broke, the oldest first, and the one that stands. (own)
-use Rattle.std.specs.Prelude.{◌≡◌, ◌<◌, ℕ, suc, List, [], ◌∷◌, ◌++◌, length, None, Some}
+use Rattle.std.specs.Prelude.{◌≡◌, ℕ, suc, List, [], ◌∷◌, ◌++◌, length, None, Some}
 use Rattle.std.specs.declared.option.Option.{Option}
 use Rattle.n41_link.specs.Counts.{Rose}
 use Rattle.n41_link.specs.declared.connection.Inflow.{Ghosts as InGhosts}
@@ -35,8 +35,3 @@ abbrev pub StaysQuiet : {I O P : Type 0} {g : InGhosts I} {h : OutGhosts O} {k :
 StaysQuiet None v = ⊥
 StaysQuiet (Some w) None = ⊥
 StaysQuiet {g = g} (Some w) (Some v) = Rose (g.quiets (inlet_inflow w.inlet)) (g.quiets (inlet_inflow v.inlet))
-
--- there is room to keep the one that stands among those that broke
-abbrev pub HasRoom : {W : Type 0} → Option W → ℕ → ℕ → Type 0
-HasRoom None len capacity = Unit {0}
-HasRoom (Some w) len capacity = len < capacity
