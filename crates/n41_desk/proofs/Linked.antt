@@ -116,23 +116,28 @@ pub adds_read : (q : Type 0) (old new : State) (c : ℕ) → Reads q old new c �
 adds_read q old new c (inl (z, same)) = ([], record { setup_is = ap (λ (s : State). s.setup) same; events_are = ap (λ (s : State). s.events) same; on = tt })
 adds_read q old new c (inr (inl t)) =
     let took = t.took in
-    let added = took.then_is.added in
-    (t.answers ++ (Took c t.place t.reply ∷ []), record {
-      setup_is = took.then_is.setup_is;
-      events_are = added.later_is ∙ sym (append_assoc t.answers (Took c t.place t.reply ∷ []) old.events);
-      on = on_both c t.answers (Took c t.place t.reply ∷ []) (answers_on c t.answers added.only) (refl, tt);
-    })
+    let added = took.then_is.added in (
+      t.answers ++ (Took c t.place t.reply ∷ []),
+      record {
+        setup_is = took.then_is.setup_is;
+        events_are = added.later_is ∙ sym (append_assoc t.answers (Took c t.place t.reply ∷ []) old.events);
+        on = on_both c t.answers (Took c t.place t.reply ∷ []) (answers_on c t.answers added.only) (refl, tt);
+      },
+    )
 adds_read q old new c (inr (inr t)) = (Broke c t.0 ∷ [], record { setup_is = setup_same old new (Broke c t.0) t.1; events_are = ap (λ (s : State). s.events) t.1; on = (refl, tt) })
 
 pub adds_sent : (old new : State) (c : ℕ) → Sends old new c → (xs : List Event) × Adds old new c xs
 adds_sent old new c s = by_then s.then_is where
   by_then : (new ≡ s.between) ⊎ ((w : Cause) × (new ≡ appends s.between (Broke c w))) → (xs : List Event) × Adds old new c xs
   by_then (inl e) = (Put c s.packet.place s.packet.request ∷ [], record { setup_is = ap (λ (z : State). z.setup) (e ∙ s.put.appended); events_are = ap (λ (z : State). z.events) (e ∙ s.put.appended); on = (refl, tt) })
-  by_then (inr (w, e)) = (Broke c w ∷ Put c s.packet.place s.packet.request ∷ [], record {
-    setup_is = ap (λ (z : State). z.setup) e ∙ ap (λ (z : State). z.setup) s.put.appended;
-    events_are = ap (λ (z : State). z.events) e ∙ ap (λ (z : State). Broke c w ∷ z.events) s.put.appended;
-    on = (refl, (refl, tt));
-  })
+  by_then (inr (w, e)) = (
+    Broke c w ∷ Put c s.packet.place s.packet.request ∷ [],
+    record {
+      setup_is = ap (λ (z : State). z.setup) e ∙ ap (λ (z : State). z.setup) s.put.appended;
+      events_are = ap (λ (z : State). z.events) e ∙ ap (λ (z : State). Broke c w ∷ z.events) s.put.appended;
+      on = (refl, (refl, tt));
+    },
+  )
 
 -- ---- saying
 
@@ -143,10 +148,11 @@ says_on c w o is known = record { number = is.number; places = is.places; read_t
 begins_with : {I O P : Type 0} {g : InGhosts I} {h : OutGhosts O} {k : ParcelGhosts P} (js : List Event) (c p n : ℕ) (r : Request) (w : Wire I O P g h k) (log : List ℕ) → Carries js c w → log ≡ outlet_log w.outlet ++ take n (fragment true (spelled r)) → IsPrefix log (written (put_on (Put c p r ∷ js) c))
 begins_with js c p n r w log d e =
     let f = fragment true (spelled r) in
-    let before = outlet_log w.outlet in
-    (drop n f,
-        ap (λ (rs : List Request). written rs) (put_self js c p r) ∙ written_more (put_on js c) r ∙ ap (λ (xs : List ℕ). xs ++ f) (sym d.asked)
-        ∙ ap (λ (xs : List ℕ). before ++ xs) (sym (take-append-drop n f)) ∙ sym (append_assoc before (take n f) (drop n f)) ∙ ap (λ (xs : List ℕ). xs ++ drop n f) (sym e))
+    let before = outlet_log w.outlet in (
+      drop n f,
+      ap (λ (rs : List Request). written rs) (put_self js c p r) ∙ written_more (put_on js c) r ∙ ap (λ (xs : List ℕ). xs ++ f) (sym d.asked)
+          ∙ ap (λ (xs : List ℕ). before ++ xs) (sym (take-append-drop n f)) ∙ sym (append_assoc before (take n f) (drop n f)) ∙ ap (λ (xs : List ℕ). xs ++ drop n f) (sym e),
+    )
 
 begins_none : {I O P : Type 0} {g : InGhosts I} {h : OutGhosts O} {k : ParcelGhosts P} (js : List Event) (c p : ℕ) (r : Request) (w : Wire I O P g h k) (log : List ℕ) → Carries js c w → log ≡ outlet_log w.outlet → IsPrefix log (written (put_on (Put c p r ∷ js) c))
 begins_none js c p r w log d e =

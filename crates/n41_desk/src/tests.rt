@@ -47,8 +47,7 @@ fn core(alloc: Global) -> Result<Core, NoMemory>
 }
 
 // A connection that brings so many of the replies, one a piece, and then ends.
-fn link(alloc: Global, replies: usize) -> Result<(MemInflow, MemOutflow), NoMemory>
-{
+fn link(alloc: Global, replies: usize) -> Result<(MemInflow, MemOutflow), NoMemory> {
     let mut pieces = Vec::new(alloc);
     for reply in REPLIES.iter().take(replies) {
         pieces.push(Bytes::copy_from_slice(alloc, reply)?)?;
@@ -129,17 +128,41 @@ fn run(alloc: Global, replies: Option<usize>) -> Option<End> {
 #[test]
 fn a_look_at_the_root_takes_seven_requests(rt: HostRuntime) {
     let end = run(rt.alloc(), Some(7));
-    assert!(rt; end == Some(End { turns: 15, told: 4096, written: 860, wires: 1 }), "{end:?}");
+    assert!(rt;
+        end == Some(End {
+            turns: 15,
+            told: 4096,
+            written: 860,
+            wires: 1
+        }),
+        "{end:?}"
+    );
 }
 
 #[test]
 fn a_link_that_ends_is_dialed_again(rt: HostRuntime) {
     let end = run(rt.alloc(), Some(4));
-    assert!(rt; end == Some(End { turns: 27, told: 16, written: 668, wires: 1 }), "{end:?}");
+    assert!(rt;
+        end == Some(End {
+            turns: 27,
+            told: 16,
+            written: 668,
+            wires: 1
+        }),
+        "{end:?}"
+    );
 }
 
 #[test]
 fn sixteen_dials_that_fail_end_a_run(rt: HostRuntime) {
     let end = run(rt.alloc(), None);
-    assert!(rt; end == Some(End { turns: 16, told: 16, written: 0, wires: 0 }), "{end:?}");
+    assert!(rt;
+        end == Some(End {
+            turns: 16,
+            told: 16,
+            written: 0,
+            wires: 0
+        }),
+        "{end:?}"
+    );
 }
