@@ -115,15 +115,18 @@ pub whole_prefix : {I O P : Type 0} {g : InGhosts I} {h : OutGhosts O} {k : Parc
 whole_prefix js c w v d same = ([], sym (ap outlet_log same ∙ d.asked) ∙ sym (append-nil (outlet_log v.outlet)))
 
 pub ends : {I O P : Type 0} {g : InGhosts I} {h : OutGhosts O} {k : ParcelGhosts P} (js ks : List Event) (c : ℕ) (w : Cause) (v : Wire I O P g h k) → IsOf v c → IsPrefix (outlet_log v.outlet) (written (put_on js c)) → BreakCause js w v (taken_on js c) → ks ≡ Broke c w ∷ js → (standing ks ≡ None) × Ended ks c v
-ends js ks c w v is prefix why now = subst (λ (ls : List Event). (standing ls ≡ None) × Ended ls c v) (sym now) (refl, record {
-  is_of = is;
-  cause = w;
-  later = [];
-  before = js;
-  broke = refl;
-  asked = prefix;
-  answered = why;
-})
+ends js ks c w v is prefix why now = subst (λ (ls : List Event). (standing ls ≡ None) × Ended ls c v) (sym now) (
+  refl,
+  record {
+    is_of = is;
+    cause = w;
+    later = [];
+    before = js;
+    broke = refl;
+    asked = prefix;
+    answered = why;
+  },
+)
 
 -- ---- all connections
 

@@ -42,7 +42,7 @@ read_before i sound read = subst (λ (o : Option MsgFault). IsRead o (inlet_give
 -- ---- counts
 
 some_rose : (before now : ℕ) → Counts before now true → 0 < now
-some_rose before now h = omega (arith, h.rose tt)
+some_rose before now h = omega (arith, h.rose refl)
 
 some_still : (old new more : List ℕ) (before now : ℕ) → new ≡ old ++ more → Stills old new before now true → 0 < now
 some_still old new [] before now e h = let q : length new ≡ length old = ap (λ (xs : List ℕ). length xs) e ∙ (omega (arith, length-append old [])) in omega (arith, h.silent q)

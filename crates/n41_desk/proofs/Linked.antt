@@ -3,6 +3,7 @@ use Rattle.std.proofs.Common.{◌≡◌, ◌<◌, ◌≤◌, ◌+◌, ◌-◌, �
 use Rattle.std.proofs.lemmas.List.{take-append-drop}
 use Rattle.std.proofs.lemmas.List.{append-nil}
 use Rattle.n41_record.specs.Fragments.{fragment}
+use Rattle.n41_link.specs.Counts.{Counts, Rose}
 use Rattle.n41_link.specs.Flow.{KnownAs}
 use Rattle.n41_link.specs.declared.connection.Inflow.{Ghosts as InGhosts}
 use Rattle.n41_link.specs.declared.connection.Outflow.{Ghosts as OutGhosts}
@@ -23,6 +24,7 @@ use Rattle.n41_requests.specs.Requests.{spelled}
 use Rattle.n41_core.specs.Causes.{ShapeCause}
 use Rattle.n41_core.specs.State.{State, Sent, HasPut, OnlyAnswers, AddsAnswers, ThenAnswers, TakesReply, appends}
 use Rattle.n41_wire.specs.Ends.{inlet_conn, inlet_log, inlet_replies, inlet_fault, inlet_inflow, outlet_log, outlet_fault, outlet_outflow}
+use Rattle.n41_wire.specs.Got.{in_quiet}
 use Rattle.n41_wire.specs.Logs.{StandFirst}
 use Rattle.n41_wire.specs.declared.arrival.InGot.{InGot}
 use Rattle.n41_wire.specs.declared.arrival.InGot.TheVariants.{Came, Quiet, End}
@@ -83,23 +85,23 @@ next_here (Err f) before c n i conn count s = tt
 
 -- ---- what was done
 
-reads_took : (x : Fate) (old new : State) (c : ℕ) (y : Reply) → TakesOrBreaks x old new c y → Reads old new c
-reads_took fate.Stands old new c y t = inr (inl (record { place = t.0; reply = y; request = t.1; answers = t.2; took = t.3 }))
-reads_took fate.Broke old new c y (inl t) = inr (inr (cause.Garbled, t.2))
-reads_took fate.Broke old new c y (inr t) = inr (inr (cause.NoMemory, t))
+reads_took : (q : Type 0) (x : Fate) (old new : State) (c : ℕ) (y : Reply) → TakesOrBreaks x old new c y → Reads q old new c
+reads_took q fate.Stands old new c y t = inr (inl (record { place = t.0; reply = y; request = t.1; answers = t.2; took = t.3 }))
+reads_took q fate.Broke old new c y (inl t) = inr (inr (cause.Garbled, t.2))
+reads_took q fate.Broke old new c y (inr t) = inr (inr (cause.NoMemory, t))
 
-reads_old : (x : Fate) (old new : State) (c : ℕ) → ByOld x old new c → Reads old new c
-reads_old fate.Stands old new c t = inl t
-reads_old fate.Broke old new c t = inr (inr (cause.Old t.0, t.2))
+reads_old : (q : Type 0) (x : Fate) (old new : State) (c : ℕ) → q → ByOld x old new c → Reads q old new c
+reads_old q fate.Stands old new c z t = inl (z, t)
+reads_old q fate.Broke old new c z t = inr (inr (cause.Old t.0, t.2))
 
-pub reads : (got : Result InGot InFault) (x : Fate) (old new : State) (c : ℕ) → Follows got x old new c → Reads old new c
-reads (Ok (Came a)) x old new c t = reads_took x old new c a.reply t
-reads (Ok Quiet) x old new c t = reads_old x old new c t
-reads (Ok End) x old new c t = inr (inr (cause.Ended, t.1))
-reads (Err Failed) x old new c t = inr (inr (cause.Link, t.1))
-reads (Err (Gather f)) x old new c t = inr (inr (cause.BadRecord, t.1))
-reads (Err (Garbled f)) x old new c t = inr (inr (cause.Garbled, t.1))
-reads (Err NoMemory) x old new c t = inr (inr (cause.NoMemory, t.1))
+pub reads : (got : Result InGot InFault) (x : Fate) (old new : State) (c a b : ℕ) → Counts a b (in_quiet got) → Follows got x old new c → Reads (Rose a b) old new c
+reads (Ok (Came y)) x old new c a b n t = reads_took (Rose a b) x old new c y.reply t
+reads (Ok Quiet) x old new c a b n t = reads_old (Rose a b) x old new c (n.rose refl) t
+reads (Ok End) x old new c a b n t = inr (inr (cause.Ended, t.1))
+reads (Err Failed) x old new c a b n t = inr (inr (cause.Link, t.1))
+reads (Err (Gather f)) x old new c a b n t = inr (inr (cause.BadRecord, t.1))
+reads (Err (Garbled f)) x old new c a b n t = inr (inr (cause.Garbled, t.1))
+reads (Err NoMemory) x old new c a b n t = inr (inr (cause.NoMemory, t.1))
 
 -- ---- events
 
@@ -110,27 +112,32 @@ on_both c (e ∷ xs) ys g h = (g.0, on_both c xs ys g.1 h)
 setup_same : (old new : State) (e : Event) → new ≡ appends old e → new.setup ≡ old.setup
 setup_same old new e h = ap (λ (s : State). s.setup) h
 
-pub adds_read : (old new : State) (c : ℕ) → Reads old new c → (xs : List Event) × Adds old new c xs
-adds_read old new c (inl same) = ([], record { setup_is = ap (λ (s : State). s.setup) same; events_are = ap (λ (s : State). s.events) same; on = tt })
-adds_read old new c (inr (inl t)) =
+pub adds_read : (q : Type 0) (old new : State) (c : ℕ) → Reads q old new c → (xs : List Event) × Adds old new c xs
+adds_read q old new c (inl (z, same)) = ([], record { setup_is = ap (λ (s : State). s.setup) same; events_are = ap (λ (s : State). s.events) same; on = tt })
+adds_read q old new c (inr (inl t)) =
     let took = t.took in
-    let added = took.then_is.added in
-    (t.answers ++ (Took c t.place t.reply ∷ []), record {
-      setup_is = took.then_is.setup_is;
-      events_are = added.later_is ∙ sym (append_assoc t.answers (Took c t.place t.reply ∷ []) old.events);
-      on = on_both c t.answers (Took c t.place t.reply ∷ []) (answers_on c t.answers added.only) (refl, tt);
-    })
-adds_read old new c (inr (inr t)) = (Broke c t.0 ∷ [], record { setup_is = setup_same old new (Broke c t.0) t.1; events_are = ap (λ (s : State). s.events) t.1; on = (refl, tt) })
+    let added = took.then_is.added in (
+      t.answers ++ (Took c t.place t.reply ∷ []),
+      record {
+        setup_is = took.then_is.setup_is;
+        events_are = added.later_is ∙ sym (append_assoc t.answers (Took c t.place t.reply ∷ []) old.events);
+        on = on_both c t.answers (Took c t.place t.reply ∷ []) (answers_on c t.answers added.only) (refl, tt);
+      },
+    )
+adds_read q old new c (inr (inr t)) = (Broke c t.0 ∷ [], record { setup_is = setup_same old new (Broke c t.0) t.1; events_are = ap (λ (s : State). s.events) t.1; on = (refl, tt) })
 
 pub adds_sent : (old new : State) (c : ℕ) → Sends old new c → (xs : List Event) × Adds old new c xs
 adds_sent old new c s = by_then s.then_is where
   by_then : (new ≡ s.between) ⊎ ((w : Cause) × (new ≡ appends s.between (Broke c w))) → (xs : List Event) × Adds old new c xs
   by_then (inl e) = (Put c s.packet.place s.packet.request ∷ [], record { setup_is = ap (λ (z : State). z.setup) (e ∙ s.put.appended); events_are = ap (λ (z : State). z.events) (e ∙ s.put.appended); on = (refl, tt) })
-  by_then (inr (w, e)) = (Broke c w ∷ Put c s.packet.place s.packet.request ∷ [], record {
-    setup_is = ap (λ (z : State). z.setup) e ∙ ap (λ (z : State). z.setup) s.put.appended;
-    events_are = ap (λ (z : State). z.events) e ∙ ap (λ (z : State). Broke c w ∷ z.events) s.put.appended;
-    on = (refl, (refl, tt));
-  })
+  by_then (inr (w, e)) = (
+    Broke c w ∷ Put c s.packet.place s.packet.request ∷ [],
+    record {
+      setup_is = ap (λ (z : State). z.setup) e ∙ ap (λ (z : State). z.setup) s.put.appended;
+      events_are = ap (λ (z : State). z.events) e ∙ ap (λ (z : State). Broke c w ∷ z.events) s.put.appended;
+      on = (refl, (refl, tt));
+    },
+  )
 
 -- ---- saying
 
@@ -141,10 +148,11 @@ says_on c w o is known = record { number = is.number; places = is.places; read_t
 begins_with : {I O P : Type 0} {g : InGhosts I} {h : OutGhosts O} {k : ParcelGhosts P} (js : List Event) (c p n : ℕ) (r : Request) (w : Wire I O P g h k) (log : List ℕ) → Carries js c w → log ≡ outlet_log w.outlet ++ take n (fragment true (spelled r)) → IsPrefix log (written (put_on (Put c p r ∷ js) c))
 begins_with js c p n r w log d e =
     let f = fragment true (spelled r) in
-    let before = outlet_log w.outlet in
-    (drop n f,
-        ap (λ (rs : List Request). written rs) (put_self js c p r) ∙ written_more (put_on js c) r ∙ ap (λ (xs : List ℕ). xs ++ f) (sym d.asked)
-        ∙ ap (λ (xs : List ℕ). before ++ xs) (sym (take-append-drop n f)) ∙ sym (append_assoc before (take n f) (drop n f)) ∙ ap (λ (xs : List ℕ). xs ++ drop n f) (sym e))
+    let before = outlet_log w.outlet in (
+      drop n f,
+      ap (λ (rs : List Request). written rs) (put_self js c p r) ∙ written_more (put_on js c) r ∙ ap (λ (xs : List ℕ). xs ++ f) (sym d.asked)
+          ∙ ap (λ (xs : List ℕ). before ++ xs) (sym (take-append-drop n f)) ∙ sym (append_assoc before (take n f) (drop n f)) ∙ ap (λ (xs : List ℕ). xs ++ drop n f) (sym e),
+    )
 
 begins_none : {I O P : Type 0} {g : InGhosts I} {h : OutGhosts O} {k : ParcelGhosts P} (js : List Event) (c p : ℕ) (r : Request) (w : Wire I O P g h k) (log : List ℕ) → Carries js c w → log ≡ outlet_log w.outlet → IsPrefix log (written (put_on (Put c p r ∷ js) c))
 begins_none js c p r w log d e =

@@ -6,4 +6,3 @@ pub mod Lines
 pub mod Moments
 pub mod Steps
 pub mod Follows
-pub mod Desks

@@ -74,30 +74,30 @@ pub record Takes (old new : State) (c : ℕ) : Type 0 where
   pub answers : List Event
   pub took : TakesReply old new c place reply request answers
 
--- a reply was taken, the connection broke, or nothing came
-abbrev pub Reads : State → State → ℕ → Type 0
-Reads old new c = (new ≡ old) ⊎ (Takes old new c ⊎ ((w : Cause) × (new ≡ appends old (Broke c w))))
+-- a reply was taken, the connection broke, or nothing came, and it was quiet
+abbrev pub Reads : Type 0 → State → State → ℕ → Type 0
+Reads quiet old new c = (quiet × (new ≡ old)) ⊎ (Takes old new c ⊎ ((w : Cause) × (new ≡ appends old (Broke c w))))
 
 -- a connection was made, or could not be
 abbrev pub Dials : State → State → Type 0
 Dials old new = (new ≡ appends old (Dialed (suc (dials old.events)))) ⊎ (new ≡ appends old DialFailed)
 
 -- where something is wanted: a connection is made or not; one request is put; a reply is taken, the connection breaks, or nothing comes; time passes
-abbrev pub Does : State → State → Want → Type 0
-Does old new want.Dial = Dials old new
-Does old new (want.Send c) = Sends old new c
-Does old new (want.Read c) = Reads old new c
-Does old new (want.Pause m) = new ≡ old
-Does old new want.Nothing = new ≡ old
+abbrev pub Does : Type 0 → State → State → Want → Type 0
+Does quiet old new want.Dial = Dials old new
+Does quiet old new (want.Send c) = Sends old new c
+Does quiet old new (want.Read c) = Reads quiet old new c
+Does quiet old new (want.Pause m) = new ≡ old
+Does quiet old new want.Nothing = new ≡ old
 
 abbrev pub IsNothing : Want → Type 0
 IsNothing want.Nothing = Unit {0}
 IsNothing w = ⊥
 
 -- it is idle exactly where nothing is wanted
-abbrev pub Acts : State → State → Want → Turn → Type 0
-Acts old new w Went = (IsNothing w → ⊥) × Does old new w
-Acts old new w Idle = IsNothing w × (new ≡ old)
+abbrev pub Acts : Type 0 → State → State → Want → Turn → Type 0
+Acts quiet old new w Went = (IsNothing w → ⊥) × Does quiet old new w
+Acts quiet old new w Idle = IsNothing w × (new ≡ old)
 
 -- the clock's moment was noted, commands were answered, and nothing else came
 pub record Notes (old new : State) (m : ℕ) (answers : List Event) : Type 0 where
@@ -108,15 +108,15 @@ pub record Notes (old new : State) (m : ℕ) (answers : List Event) : Type 0 whe
 abbrev pub IsNoted : State → State → Type 0
 IsNoted old new = (new ≡ old) ⊎ ((m : ℕ) × (answers : List Event) × Notes old new m answers)
 
--- one turn: the clock's moment was noted, and then what was wanted was done
-pub record TakesTurn (old new : State) (turn : Turn) : Type 0 where
+-- one turn: the clock's moment was noted, and then what was wanted was done; where nothing came that was read, it was quiet
+pub record TakesTurn (quiet : Type 0) (old new : State) (turn : Turn) : Type 0 where
   pub between : State
   pub at : ℕ
   pub answers : List Event
   pub wanted : Want
   pub noted : Notes old between at answers
   pub cause : WantCause between.setup between.events wanted
-  pub acts : Acts between new wanted turn
+  pub acts : Acts quiet between new wanted turn
 
 -- one command was given: the clock's moment was noted, and then the command began
 pub record Posts (old new : State) (caller : ℕ) (command : Command) (ticket : Ticket) : Type 0 where

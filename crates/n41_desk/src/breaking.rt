@@ -34,7 +34,10 @@ pub(crate) fn break_old(core: &mut Core, conn: u64) -> Fate
     ensures { ByOld result core.old core.new conn }
 {
     match core.old_request() {
-        Some(xid) => break_off(core, conn, Cause::Old(xid)),
+        Some(xid) => {
+            let _broke = break_off(core, conn, Cause::Old(xid));
+            Fate::Broke
+        }
         None => Fate::Stands,
     }
 }

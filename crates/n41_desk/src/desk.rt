@@ -8,7 +8,7 @@ ghost use Rattle.n41_model.specs.Requests.{quit};
 ghost use Rattle.n41_core.specs.Settled.{IsSettled};
 ghost use Rattle.n41_core.specs.State.{appends};
 ghost use Rattle.n41_desk.specs.Journals.{moments};
-ghost use Rattle.n41_desk.specs.Lines.{AreWires, HasLines};
+ghost use Rattle.n41_desk.specs.Lines.{AreWires, HasLines, StaysQuiet};
 ghost use Rattle.n41_desk.specs.Moments.{AreGiven, CountsDials};
 ghost use Rattle.n41_desk.specs.Steps.{IsNoted, PostCause, Posts, TakesTurn};
 
@@ -26,14 +26,12 @@ use std::alloc::Global;
 /// a turn.
 ///
 /// Its connections are always those of its journal, and each moment in the journal is one that the clock has given.
+#[derive(Drop)]
 pub struct Desk<D: Dialer, C: Clock> {
     core: Core,
     lines: Lines<D::I, D::O>,
     dialer: D,
     clock: C,
-    ghost owner: { length core.setup.owner ≤ 1024 },
-    ghost holds: { HasLines core.events lines.ended.items lines.wire },
-    ghost given: { AreGiven (C.given clock) (moments core.events) },
 }
 
 impl<D: Dialer, C: Clock> Desk<D, C>
@@ -41,15 +39,16 @@ where
     D::I: Drop,
     D::O: Drop,
 {
-    ghost use Rattle.n41_desk.specs.Desks.{desk_state, desk_dialer, desk_clock};
-
     /// A desk of a client that has done nothing yet.
     pub fn new(alloc: Global, core: Core, dialer: D, clock: C) -> Desk<D, C>
         requires owner { length core.setup.owner ≤ 1024 }
         requires events { core.events ≡ [] }
-        ensures core { desk_state result ≡ core }
-        ensures dialer { desk_dialer result ≡ dialer }
-        ensures clock { desk_clock result ≡ clock }
+        ensures core { result.core ≡ core }
+        ensures dialer { result.dialer ≡ dialer }
+        ensures clock { result.clock ≡ clock }
+        ensures has_owner { length result.core.setup.owner ≤ 1024 }
+        ensures has_lines { HasLines result.core.events result.lines.ended.items result.lines.wire }
+        ensures has_given { AreGiven (C.given result.clock) (moments result.core.events) }
     {
         Desk {
             core,
@@ -59,12 +58,10 @@ where
         }
     }
 
-    /// Laws: its journal is one of a client that keeps its rules, no command is unanswered that has earned its answer, and the clock gave
-    /// each moment in it.
+    /// Laws: its journal is one of a client that keeps its rules, and no command is unanswered that has earned its answer.
     pub fn kept(&self)
-        ensures kept { Kept (desk_state self.now).setup (desk_state self.now).events }
-        ensures settled { IsSettled (desk_state self.now).setup.callers (desk_state self.now).events }
-        ensures given { AreGiven (C.given (desk_clock self.now)) (moments (desk_state self.now).events) }
+        ensures kept { Kept self.now.core.setup self.now.core.events }
+        ensures settled { IsSettled self.now.core.setup.callers self.now.core.events }
     {
         self.core.kept();
         self.core.settled();
@@ -72,15 +69,15 @@ where
 
     /// Whether there is such a caller, and its last command is answered.
     pub fn is_idle(&self, caller: u32) -> bool
-        ensures { result ≡ (nat_lt caller (desk_state self.now).setup.callers && is_none (command (desk_state self.now).events caller)) }
+        ensures { result ≡ (nat_lt caller self.now.core.setup.callers && is_none (command self.now.core.events caller)) }
     {
         self.core.is_idle(caller)
     }
 
     /// The place and the value of the answer to a command. None where it has none.
     pub fn answer_of(&self, ticket: Ticket) -> Option<(u64, &Answer)>
-        ensures some { IfSome result (λ r. HasAnswer (desk_state self.now).events ticket.caller ticket.number r.0 r.1.now) }
-        ensures none { IfNone result ((p : ℕ) (a : AnswerValue) → HasAnswer (desk_state self.now).events ticket.caller ticket.number p a → ⊥) }
+        ensures some { IfSome result (λ r. HasAnswer self.now.core.events ticket.caller ticket.number r.0 r.1.now) }
+        ensures none { IfNone result ((p : ℕ) (a : AnswerValue) → HasAnswer self.now.core.events ticket.caller ticket.number p a → ⊥) }
     {
         self.core.answer_of(ticket)
     }
@@ -88,12 +85,18 @@ where
     /// Begins a command of a caller, at the clock's moment. Where it does not begin, only that moment is noted: where there is no such caller,
     /// where the caller's last command is unanswered, where no more commands come, or for want of memory.
     pub fn post(&mut self, caller: u32, command: Command) -> Result<Ticket, PostFault>
-        requires { IsSome (next_plan (Some command)) }
-        ensures ok { IfOk result (λ ticket. Posts (desk_state self.old) (desk_state self.new) caller command ticket) }
-        ensures err { OnErr result (IsNoted (desk_state self.old) (desk_state self.new)) }
-        ensures cause { IfErr result (λ fault. PostCause (desk_state self.new) caller fault) }
-        ensures dialer { desk_dialer self.new ≡ desk_dialer self.old }
-        ensures tells { C.tells (desk_clock self.new) ≡ C.tells (desk_clock self.old) }
+        requires owner { length self.old.core.setup.owner ≤ 1024 }
+        requires lines { HasLines self.old.core.events self.old.lines.ended.items self.old.lines.wire }
+        requires given { AreGiven (C.given self.old.clock) (moments self.old.core.events) }
+        requires built { IsSome (next_plan (Some command)) }
+        ensures ok { IfOk result (λ ticket. Posts self.old.core self.new.core caller command ticket) }
+        ensures err { OnErr result (IsNoted self.old.core self.new.core) }
+        ensures cause { IfErr result (λ fault. PostCause self.new.core caller fault) }
+        ensures dialer { self.new.dialer ≡ self.old.dialer }
+        ensures tells { C.tells self.new.clock ≡ C.tells self.old.clock }
+        ensures has_owner { length self.new.core.setup.owner ≤ 1024 }
+        ensures has_lines { HasLines self.new.core.events self.new.lines.ended.items self.new.lines.wire }
+        ensures has_given { AreGiven (C.given self.new.clock) (moments self.new.core.events) }
     {
         match note(&mut self.core, &mut self.clock) {
             Ok(()) => self.core.post(caller, command),
@@ -106,10 +109,16 @@ where
 
     /// No more commands come.
     pub fn finish(&mut self) -> Result<(), NoMemory>
-        ensures ok { OnOk result (desk_state self.new ≡ (if quit (desk_state self.old).events then desk_state self.old else appends (desk_state self.old) EventValue.Quit)) }
-        ensures err { OnErr result (desk_state self.new ≡ desk_state self.old) }
-        ensures dialer { desk_dialer self.new ≡ desk_dialer self.old }
-        ensures clock { desk_clock self.new ≡ desk_clock self.old }
+        requires owner { length self.old.core.setup.owner ≤ 1024 }
+        requires lines { HasLines self.old.core.events self.old.lines.ended.items self.old.lines.wire }
+        requires given { AreGiven (C.given self.old.clock) (moments self.old.core.events) }
+        ensures ok { OnOk result (self.new.core ≡ (if quit self.old.core.events then self.old.core else appends self.old.core EventValue.Quit)) }
+        ensures err { OnErr result (self.new.core ≡ self.old.core) }
+        ensures dialer { self.new.dialer ≡ self.old.dialer }
+        ensures clock { self.new.clock ≡ self.old.clock }
+        ensures has_owner { length self.new.core.setup.owner ≤ 1024 }
+        ensures has_lines { HasLines self.new.core.events self.new.lines.ended.items self.new.lines.wire }
+        ensures has_given { AreGiven (C.given self.new.clock) (moments self.new.core.events) }
     {
         self.core.finish()
     }
@@ -118,10 +127,16 @@ where
     /// once, or lets 100 milliseconds pass. It is idle exactly where the core wants nothing. For want of memory nothing is done, save that the
     /// clock's moment may be noted; but where it is wanting for a request that was put, or for what comes, the connection breaks.
     pub fn turn(&mut self, alloc: Global, addr: &str) -> Result<Turn, NoMemory>
-        ensures ok { IfOk result (λ turn. TakesTurn (desk_state self.old) (desk_state self.new) turn) }
-        ensures err { OnErr result (IsNoted (desk_state self.old) (desk_state self.new)) }
-        ensures counts { CountsDials (desk_state self.old).events (desk_state self.new).events (D.faults (desk_dialer self.old)) (D.faults (desk_dialer self.new)) }
-        ensures tells { C.tells (desk_clock self.new) ≡ C.tells (desk_clock self.old) }
+        requires owner { length self.old.core.setup.owner ≤ 1024 }
+        requires lines { HasLines self.old.core.events self.old.lines.ended.items self.old.lines.wire }
+        requires given { AreGiven (C.given self.old.clock) (moments self.old.core.events) }
+        ensures ok { IfOk result (λ turn. TakesTurn (StaysQuiet self.old.lines.wire self.new.lines.wire) self.old.core self.new.core turn) }
+        ensures err { OnErr result (IsNoted self.old.core self.new.core) }
+        ensures counts { CountsDials self.old.core.events self.new.core.events (D.faults self.old.dialer) (D.faults self.new.dialer) }
+        ensures tells { C.tells self.new.clock ≡ C.tells self.old.clock }
+        ensures has_owner { length self.new.core.setup.owner ≤ 1024 }
+        ensures has_lines { HasLines self.new.core.events self.new.lines.ended.items self.new.lines.wire }
+        ensures has_given { AreGiven (C.given self.new.clock) (moments self.new.core.events) }
     {
         note(&mut self.core, &mut self.clock)?;
         let want = self.core.wants();
@@ -138,12 +153,15 @@ where
 
     /// The journal, the dialer, the clock, and the connections in the order of their numbers, of which the last may stand. It takes no memory.
     pub fn into_parts(self) -> (Journal, D, C, Vec<Wire<D::I, D::O, Packet>>)
-        ensures journal { result.0.events ≡ (desk_state self).events }
-        ensures dialer { result.1 ≡ desk_dialer self }
-        ensures clock { result.2 ≡ desk_clock self }
-        ensures wires { AreWires (desk_state self).events result.3.items }
-        ensures kept { Kept (desk_state self).setup (desk_state self).events }
-        ensures settled { IsSettled (desk_state self).setup.callers (desk_state self).events }
+        requires owner { length self.core.setup.owner ≤ 1024 }
+        requires lines { HasLines self.core.events self.lines.ended.items self.lines.wire }
+        requires given { AreGiven (C.given self.clock) (moments self.core.events) }
+        ensures journal { result.0.events ≡ self.core.events }
+        ensures dialer { result.1 ≡ self.dialer }
+        ensures clock { result.2 ≡ self.clock }
+        ensures wires { AreWires self.core.events result.3.items }
+        ensures kept { Kept self.core.setup self.core.events }
+        ensures settled { IsSettled self.core.setup.callers self.core.events }
         ensures given { AreGiven (C.given result.2) (moments result.0.events) }
     {
         self.core.kept();

@@ -1,9 +1,11 @@
 // What is heard on the connection that stands.
 ghost use Rattle.std.specs.Prelude.{◌≡◌, Some, None};
+ghost use Rattle.n41_link.specs.Counts.{Counts, Rose};
 ghost use Rattle.n41_link.specs.Flow.{KnownAs};
 ghost use Rattle.n41_link.specs.Heard.{capped};
 ghost use Rattle.n41_model.specs.Requests.{standing, takes};
 ghost use Rattle.n41_wire.specs.Ends.{inlet_conn, inlet_log, inlet_replies, inlet_fault, inlet_inflow};
+ghost use Rattle.n41_wire.specs.Got.{in_quiet};
 ghost use Rattle.n41_wire.specs.Logs.{StandFirst};
 ghost use Rattle.n41_desk.specs.Shown.{Shows};
 ghost use Rattle.n41_desk.specs.Steps.{Reads, TakesOrBreaks};
@@ -14,7 +16,7 @@ use crate::breaking::{Fate, break_off, break_old};
 use n41_core::{Core, Packet, TookFault};
 use n41_journal::Cause;
 use n41_link::{Inflow, Outflow};
-use n41_wire::{Arrival, InFault, InGot, Inlet, Wire};
+use n41_wire::{Arrival, InFault, InGot, Inlet, Wire, replies_stand_first};
 use std::alloc::Global;
 
 /// Hears the next message once, and keeps what the inlet shows of it.
@@ -23,8 +25,10 @@ fn listen<I: Inflow>(alloc: Global, inlet: &mut Inlet<I>) -> Result<InGot, InFau
     ensures conn { inlet_conn inlet.new ≡ inlet_conn inlet.old }
     ensures told { KnownAs (I.got (inlet_inflow inlet.new)) (inlet_log inlet.new) }
     ensures first { StandFirst (inlet_log inlet.new) (inlet_replies inlet.new) }
+    ensures quiets { Counts (I.quiets (inlet_inflow inlet.old)) (I.quiets (inlet_inflow inlet.new)) (in_quiet result) }
     ensures shows { Shows result (inlet_replies inlet.old) inlet.new }
 {
+    replies_stand_first();
     let _ = inlet.inflow();
     let got = inlet.next(alloc);
     let _ = inlet.inflow();
@@ -40,11 +44,13 @@ fn take(core: &mut Core, arrival: Arrival) -> Fate
 {
     match core.took(arrival) {
         Ok(()) => Fate::Stands,
-        Err(TookFault::Misplaced { want, .. }) => {
+        Err(TookFault::Gone(_)) => Fate::Broke,
+        Err(TookFault::Misplaced { want, have: _ }) => {
             let _want = want;
             Fate::Broke
         }
-        Err(_) => Fate::Broke,
+        Err(TookFault::Shape(_)) => Fate::Broke,
+        Err(TookFault::NoMemory) => Fate::Broke,
     }
 }
 
@@ -74,7 +80,7 @@ pub(crate) fn hear<I: Inflow, O: Outflow>(
 ) -> Fate
     requires { Carries core.old.events conn wire.old }
     ensures fares { Fares result core.new.events conn wire.new }
-    ensures reads { Reads core.old core.new conn }
+    ensures reads { Reads (Rose (I.quiets (inlet_inflow wire.old.inlet)) (I.quiets (inlet_inflow wire.new.inlet))) core.old core.new conn }
 {
     let got = listen(alloc, &mut wire.inlet);
     follow(core, conn, got)

@@ -1,12 +1,13 @@
 // The connections of a desk.
-ghost use Rattle.std.specs.Prelude.{◌≡◌, ◌⊎◌, ◌≤◌, [], ℕ, suc, List, length, vec_len, vec_capacity, None, Some, IsSome, IfOk, OnOk, OnErr};
+ghost use Rattle.std.specs.Prelude.{◌≡◌, ◌≤◌, ◌<◌, [], suc, length, vec_len, vec_capacity, None, Some, IsSome, OnOk, OnErr};
+ghost use Rattle.std.specs.Option.{ForSome};
 ghost use Rattle.n41_journal.specs.declared.events.Event.{Event as EventValue};
 ghost use Rattle.n41_link.specs.Flow.{KnownAs};
 ghost use Rattle.n41_model.specs.declared.words.Item.{Item as ItemValue};
 ghost use Rattle.n41_model.specs.Due.{due};
 ghost use Rattle.n41_model.specs.Requests.{standing, dials};
 ghost use Rattle.n41_core.specs.State.{appends};
-ghost use Rattle.n41_desk.specs.Lines.{HasLines, HasRoom, in_order};
+ghost use Rattle.n41_desk.specs.Lines.{HasLines, StaysQuiet, in_order};
 ghost use Rattle.n41_desk.specs.Moments.{CountsDials};
 ghost use Rattle.n41_desk.specs.Steps.{Dials, Reads, Sends};
 ghost use Rattle.n41_desk.specs.Wires.{IsNew};
@@ -21,10 +22,11 @@ use n41_wire::{Inlet, Outlet, Wire};
 use std::alloc::Global;
 
 /// The connections that broke, the oldest first, and the one that stands. There is room to keep that one too, once it breaks.
+#[derive(Drop)]
 pub(crate) struct Lines<I: Inflow, O: Outflow> {
     pub(crate) ended: Vec<Wire<I, O, Packet>>,
     pub(crate) wire: Option<Wire<I, O, Packet>>,
-    ghost room: { HasRoom wire (vec_len ended) (vec_capacity ended) },
+    ghost room: { ForSome wire (λ _. vec_len ended < vec_capacity ended) },
 }
 
 /// The wire of a new connection.
@@ -66,10 +68,13 @@ impl<I: Inflow + Drop, O: Outflow + Drop> Lines<I, O> {
         ensures { result.items ≡ in_order self.ended.items self.wire }
     {
         let Lines { mut ended, wire } = self;
-        if let Some(wire) = wire {
-            ended.push_reserved(wire);
+        match wire {
+            None => ended,
+            Some(wire) => {
+                ended.push_reserved(wire);
+                ended
+            }
         }
-        ended
     }
 
     /// Reads once from the connection that stands, and takes what came.
@@ -77,13 +82,14 @@ impl<I: Inflow + Drop, O: Outflow + Drop> Lines<I, O> {
         requires lines { HasLines core.old.events self.old.ended.items self.old.wire }
         requires stands { standing core.old.events ≡ Some conn }
         ensures lines { HasLines core.new.events self.new.ended.items self.new.wire }
-        ensures reads { Reads core.old core.new conn }
+        ensures reads { Reads (StaysQuiet self.old.wire self.new.wire) core.old core.new conn }
     {
-        if let Some(mut wire) = self.wire.take() {
-            match hear(alloc, core, conn, &mut wire) {
-                Fate::Stands => self.wire = Some(wire),
-                Fate::Broke => self.ended.push_reserved(wire),
-            }
+        let Some(mut wire) = self.wire.take() else {
+            return;
+        };
+        match hear(alloc, core, conn, &mut wire) {
+            Fate::Stands => self.wire = Some(wire),
+            Fate::Broke => self.ended.push_reserved(wire),
         }
     }
 
@@ -101,14 +107,19 @@ impl<I: Inflow + Drop, O: Outflow + Drop> Lines<I, O> {
             return Ok(());
         };
         match say(core, conn, &mut wire) {
-            Ok(Fate::Broke) => self.ended.push_reserved(wire),
-            Ok(Fate::Stands) => self.wire = Some(wire),
+            Ok(Fate::Stands) => {
+                self.wire = Some(wire);
+                Ok(())
+            }
+            Ok(Fate::Broke) => {
+                self.ended.push_reserved(wire);
+                Ok(())
+            }
             Err(fault) => {
                 self.wire = Some(wire);
-                return Err(fault);
+                Err(fault)
             }
         }
-        Ok(())
     }
 
     /// Notes a connection that was made. Where memory is wanting, it is dropped and nothing changes.

@@ -4,7 +4,7 @@ ghost use Rattle.n41_journal.specs.declared.events.Event.{Event as EventValue};
 ghost use Rattle.n41_model.specs.Requests.{moment as last_moment};
 ghost use Rattle.n41_core.specs.Causes.{WantCause};
 ghost use Rattle.n41_desk.specs.Journals.{moments};
-ghost use Rattle.n41_desk.specs.Lines.{HasLines};
+ghost use Rattle.n41_desk.specs.Lines.{HasLines, StaysQuiet};
 ghost use Rattle.n41_desk.specs.Moments.{AreGiven, CountsDials};
 ghost use Rattle.n41_desk.specs.Steps.{Acts, Notes};
 
@@ -49,7 +49,7 @@ where
     requires lines { HasLines core.old.events lines.old.ended.items lines.old.wire }
     requires wanted { WantCause core.old.setup core.old.events want }
     ensures lines { HasLines core.new.events lines.new.ended.items lines.new.wire }
-    ensures acts { IfOk result (λ turn. Acts core.old core.new want turn) }
+    ensures acts { IfOk result (λ turn. Acts (StaysQuiet lines.old.wire lines.new.wire) core.old core.new want turn) }
     ensures err { OnErr result (core.new ≡ core.old) }
     ensures counts { CountsDials core.old.events core.new.events (D.faults dialer.old) (D.faults dialer.new) }
     ensures given { C.given clock.new ≡ C.given clock.old }
