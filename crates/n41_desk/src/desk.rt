@@ -26,6 +26,7 @@ use std::alloc::Global;
 /// a turn.
 ///
 /// Its connections are always those of its journal, and each moment in the journal is one that the clock has given.
+#[derive(Drop)]
 pub struct Desk<D: Dialer, C: Clock> {
     core: Core,
     lines: Lines<D::I, D::O>,

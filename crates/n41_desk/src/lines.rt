@@ -21,6 +21,7 @@ use n41_wire::{Inlet, Outlet, Wire};
 use std::alloc::Global;
 
 /// The connections that broke, the oldest first, and the one that stands. There is room to keep that one too, once it breaks.
+#[derive(Drop)]
 pub(crate) struct Lines<I: Inflow, O: Outflow> {
     pub(crate) ended: Vec<Wire<I, O, Packet>>,
     pub(crate) wire: Option<Wire<I, O, Packet>>,
