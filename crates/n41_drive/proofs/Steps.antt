@@ -1,6 +1,7 @@
 -- What each step leaves of callers that work through a script.
-use Rattle.std.proofs.Common.{◌≡◌, ◌≢◌, ◌⊎◌, inl, inr, ℕ, suc, ◌+◌, ◌-◌, ◌^◌, ◌<◌, ◌≤◌, Bool, true, false, List, [], ◌∷◌, length, get_or, set, replicate, refl, sym, ◌∙◌, ap, subst, arith, below_more, if◌then◌else◌}
-use Rattle.std.proofs.lemmas.List.{get_or-set_same, get_or-set_other}
+use Rattle.std.proofs.Common.{◌≡◌, ◌≢◌, ◌⊎◌, inl, inr, ℕ, zero, suc, ◌+◌, ◌-◌, ◌^◌, ◌<◌, ◌≤◌, Bool, true, false, List, [], ◌∷◌, length, get_or, set, replicate, Result, Ok, Err, refl, sym, ◌∙◌, ap, subst, arith, below_more, if◌then◌else◌}
+use Rattle.std.proofs.lemmas.List.{get_or-set_same, get_or-set_other, length-replicate}
+use Rattle.std.specs.Prelude.{IfOk, OnOk, OnErr}
 use Rattle.n41_journal.specs.declared.events.Event.{Event}
 use Rattle.n41_journal.specs.declared.events.Event.TheVariants.{Quit}
 use Rattle.n41_model.specs.declared.words.Setup.{Setup}
@@ -14,11 +15,11 @@ use Rattle.n41_core.specs.State.{State, appends}
 use Rattle.n41_script.specs.declared.script.ScriptLine.{ScriptLine}
 use Rattle.n41_desk.specs.Journals.{begun_by, failures}
 use Rattle.n41_desk.specs.Moments.{CountsDials}
-use Rattle.n41_desk.specs.Steps.{TakesTurn, Acts, IsNothing, Notes}
+use Rattle.n41_desk.specs.Steps.{TakesTurn, Acts, IsNothing, Notes, IsNoted}
 use Rattle.n41_desk.specs.declared.turns.Turn.{Turn}
 use Rattle.n41_desk.specs.declared.turns.Turn.TheVariants.{Went, Idle}
-use Rattle.n41_drive.specs.Drives.{HasBegun, HasBegunAll, AreBegun, AreFound, IsFound, QuitsLast, PostsOnly, Works, IsAnswered}
-use Rattle.n41_drive.proofs.Begun.{Left, left_finish, setup_finish, left_noted}
+use Rattle.n41_drive.specs.Drives.{HasBegun, HasBegunAll, AreBegun, AreFound, IsFound, QuitsLast, PostsOnly, Works, IsAnswered, Begins, Driven}
+use Rattle.n41_drive.proofs.Begun.{Left, left_finish, setup_finish, failures_finish, left_noted, left_maybe, left_turn}
 use Rattle.n41_drive.proofs.Ended.{is_answered}
 
 -- ---- one caller after another
@@ -89,3 +90,61 @@ counts_then xs ys zs a b d g h =
 
 pub counts_none : (xs ys : List Event) (a b : ℕ) → failures ys ≡ failures xs → b ≡ a → CountsDials xs ys a b
 counts_none xs ys a b e f = record { later = omega (arith, f); few = inl (omega (arith, e, f)) }
+
+-- ---- by what a call answered
+
+pub left_after : {E : Type 0} (r : Result Turn E) (s t : State) → IfOk r (λ x. TakesTurn s t x) → OnErr r (IsNoted s t) → Left s t
+left_after (Ok x) s t g h = left_turn s t x g
+left_after (Err x) s t g h = left_maybe s t h
+
+pub idle_after : {E : Type 0} (r : Result Turn E) (s t : State) → IfOk r (λ x. TakesTurn s t x) → IfOk r (λ x. x ≡ Idle → IsAnswered t.setup.callers t.events)
+idle_after (Ok x) s t g = λ e. idle_answered s t (subst (λ (y : Turn). TakesTurn s t y) e g)
+idle_after (Err x) s t g = tt
+
+-- ---- runs
+
+not_quit : {X : Type 0} → false ≡ true → X
+not_quit e = absurd (cc)
+
+pub begins_none : (n : ℕ) (js : List Event) (ls : List ScriptLine) → js ≡ [] → Begins n js ls
+begins_none n js ls e = subst (λ (ks : List Event). Begins n ks ls) (sym e) (record { began = λ c l. (0, refl); all = λ q. not_quit q })
+
+zero_at : (n c : ℕ) → get_or (replicate n 0) c 0 ≡ 0
+zero_at zero c = refl
+zero_at (suc n) zero = refl
+zero_at (suc n) (suc c) = zero_at n c
+
+at_none : (ls : List ScriptLine) (c p : ℕ) → p ≡ 0 → HasBegun [] ls c p
+at_none ls c p e = subst (λ (q : ℕ). HasBegun [] ls c q) (sym e) refl
+
+pub works_new : (s : State) (ls : List ScriptLine) (places : List ℕ) (n : ℕ) → s.events ≡ [] → places ≡ replicate n 0 → n ≡ s.setup.callers → Works s ls places
+works_new s ls places n e p a = record {
+  all = ap length p ∙ length-replicate n 0 ∙ a;
+  begun = λ c l. subst (λ (ks : List Event). HasBegun ks ls c (get_or places c 0)) (sym e) (at_none ls c (get_or places c 0) (ap (λ (xs : List ℕ). get_or xs c 0) p ∙ zero_at n c));
+  last = λ q. not_quit (sym (ap quit e) ∙ q);
+}
+
+pub begins_works : (n : ℕ) (s : State) (ls : List ScriptLine) (places : List ℕ) → n ≡ s.setup.callers → Works s ls places → Begins n s.events ls
+begins_works n s ls places e w =
+    let q : n ≡ length places = e ∙ sym w.all in
+    subst (λ (m : ℕ). Begins m s.events ls) (sym q) (record { began = λ c l. (get_or places c 0, w.begun c l); all = w.last })
+
+pub driven_works : (n : ℕ) (s : State) (ls : List ScriptLine) (places : List ℕ) → n ≡ s.setup.callers → Works s ls places → IsAnswered s.setup.callers s.events → Driven n s.events ls
+driven_works n s ls places e w a =
+    let b = begins_works n s ls places e w in
+    let d : IsAnswered n s.events = subst (λ (m : ℕ). IsAnswered m s.events) (sym e) a in
+    record { ended = d.ended; answered = d.answered; began = b.began; all = b.all }
+
+pub counts_on : (js xs ys : List Event) (n a b : ℕ) → failures ys ≡ failures xs → b ≡ a → CountsDials js xs n a → CountsDials js ys n b
+counts_on js xs ys n a b e f h = counts_then js xs ys n a b h (counts_none xs ys a b e f)
+
+pub counts_at : (js : List Event) (a : ℕ) → js ≡ [] → CountsDials [] js a a
+counts_at js a e = counts_none [] js a a (ap failures e) refl
+
+pub driven_after : {E : Type 0} (r : Result (Unit {0}) E) (n : ℕ) (s : State) (ls : List ScriptLine) (places : List ℕ) → n ≡ s.setup.callers → Works s ls places → OnOk r (IsAnswered s.setup.callers s.events) → OnOk r (Driven n s.events ls)
+driven_after (Ok x) n s ls places e w a = driven_works n s ls places e w a
+driven_after (Err x) n s ls places e w a = tt
+
+pub begins_after : {E : Type 0} (r : Result (Unit {0}) E) (n : ℕ) (s : State) (ls : List ScriptLine) (places : List ℕ) → n ≡ s.setup.callers → Works s ls places → OnErr r (Begins n s.events ls)
+begins_after (Ok x) n s ls places e w = tt
+begins_after (Err x) n s ls places e w = begins_works n s ls places e w

@@ -1,5 +1,6 @@
 // The loop over callers and turns.
-ghost use Rattle.std.specs.Prelude.{◌≡◌, ◌≢◌, ◌<◌, ◌^◌, ℕ, [], length, true, IfOk, OnOk, OnErr, IsTrue};
+ghost use Rattle.std.specs.Prelude.{◌≡◌, ◌≢◌, ◌<◌, ◌^◌, ℕ, List, [], length, replicate, true, IfOk, OnOk, OnErr, IsTrue};
+ghost use Rattle.n41_journal.specs.declared.events.Event.{Event as EventValue};
 ghost use Rattle.n41_desk.specs.Desks.{desk_state, desk_dialer, desk_clock};
 ghost use Rattle.n41_desk.specs.Journals.{begun_by, failures};
 ghost use Rattle.n41_desk.specs.Moments.{CountsDials};
@@ -124,11 +125,47 @@ where
     ensures works { Works (desk_state desk.new) lines.now places.new }
     ensures idle { IfOk result (λ turn. turn ≡ TurnValue.Idle → IsAnswered (desk_state desk.new).setup.callers (desk_state desk.new).events) }
     ensures setup { (desk_state desk.new).setup ≡ (desk_state desk.old).setup }
-    ensures counts { CountsDials (desk_state desk.old).events (desk_state desk.new).events (D.faults (desk_dialer desk.old)) (D.faults (desk_dialer desk.new)) }
+    ensures counts { (js : List EventValue) (n : ℕ) → CountsDials js (desk_state desk.old).events n (D.faults (desk_dialer desk.old)) → CountsDials js (desk_state desk.new).events n (D.faults (desk_dialer desk.new)) }
     ensures tells { C.tells (desk_clock desk.new) ≡ C.tells (desk_clock desk.old) }
 {
     give(desk, lines, places)?;
     desk.turn(alloc, addr)
+}
+
+/// Takes steps until the desk is idle, or for want of memory.
+fn work<R: Wait, D: Dialer, C: Clock>(
+    rt: &R,
+    alloc: Global,
+    desk: &mut Desk<D, C>,
+    addr: &str,
+    lines: &[ScriptLine],
+    places: &mut [usize],
+) -> Result<(), NoMemory>
+where
+    D::I: Drop,
+    D::O: Drop,
+    requires built { AreBuilt lines.now }
+    requires few { length places.old < 2 ^ 32 }
+    requires works { Works (desk_state desk.old) lines.now places.old }
+    ensures works { Works (desk_state desk.new) lines.now places.new }
+    ensures answered { OnOk result (IsAnswered (desk_state desk.new).setup.callers (desk_state desk.new).events) }
+    ensures setup { (desk_state desk.new).setup ≡ (desk_state desk.old).setup }
+    ensures counts { (js : List EventValue) (n : ℕ) → CountsDials js (desk_state desk.old).events n (D.faults (desk_dialer desk.old)) → CountsDials js (desk_state desk.new).events n (D.faults (desk_dialer desk.new)) }
+    ensures tells { C.tells (desk_clock desk.new) ≡ C.tells (desk_clock desk.old) }
+{
+    for _ in rt.forever() {
+        if let Turn::Idle = step(alloc, desk, addr, lines, places)? {
+            return Ok(());
+        }
+    }
+    unreachable!()
+}
+
+/// The places of so many callers before the first line.
+fn first_places(alloc: Global, callers: u32) -> Result<Vec<usize>, NoMemory>
+    ensures { IfOk result (λ places. places.items ≡ replicate callers 0) }
+{
+    vec![in alloc; 0usize; callers as usize]
 }
 
 /// Works through the commands of a script: each of so many callers, from 0, begins its commands in their order, the next once the last is answered. When all
@@ -153,11 +190,6 @@ where
     ensures counts { CountsDials [] (desk_state desk.new).events (D.faults (desk_dialer desk.old)) (D.faults (desk_dialer desk.new)) }
     ensures tells { C.tells (desk_clock desk.new) ≡ C.tells (desk_clock desk.old) }
 {
-    let mut places = vec![in alloc; 0usize; callers as usize]?;
-    for _ in rt.forever() {
-        if step(alloc, desk, addr, lines, &mut places)? == Turn::Idle {
-            return Ok(());
-        }
-    }
-    unreachable!()
+    let mut places = first_places(alloc, callers)?;
+    work(rt, alloc, desk, addr, lines, places.as_mut_slice())
 }

@@ -10,5 +10,5 @@ mod script;
 mod words;
 
 pub use fault::{LineKind, ScriptFault};
-pub use reading::read_script;
+pub use reading::{SCRIPT_LIMIT, read_script};
 pub use script::{Lines, Script, ScriptLine};
