@@ -2,9 +2,10 @@ ghost use Rattle.std.specs.Prelude.{◌≡◌, ◌≤◌, [], ◌&&◌, ℕ, len
 ghost use Rattle.n41_types.specs.declared.commands.Answer.{Answer as AnswerValue};
 ghost use Rattle.n41_journal.specs.declared.events.Event.{Event as EventValue};
 ghost use Rattle.n41_answers.specs.Answers.{HasAnswer};
+ghost use Rattle.n41_model.specs.Answers.{breach_at};
 ghost use Rattle.n41_model.specs.Calls.{command, next_plan};
 ghost use Rattle.n41_model.specs.Kept.{Kept};
-ghost use Rattle.n41_model.specs.Requests.{quit};
+ghost use Rattle.n41_model.specs.Requests.{quit, rounds};
 ghost use Rattle.n41_core.specs.Settled.{IsSettled};
 ghost use Rattle.n41_core.specs.State.{appends};
 ghost use Rattle.n41_desk.specs.Journals.{moments};
@@ -72,6 +73,20 @@ where
         ensures { result ≡ (nat_lt caller self.now.core.setup.callers && is_none (command self.now.core.events caller)) }
     {
         self.core.is_idle(caller)
+    }
+
+    /// The place in the journal of the first reply that broke the rules. None where there is none.
+    pub fn breach(&self) -> Option<u64>
+        ensures { result ≡ breach_at (desk_state self.now).events }
+    {
+        self.core.breach()
+    }
+
+    /// How many rounds, up to the last, were in a row without a reply.
+    pub fn rounds(&self) -> u64
+        ensures { result ≡ rounds (desk_state self.now).events }
+    {
+        self.core.rounds()
     }
 
     /// The place and the value of the answer to a command. None where it has none.

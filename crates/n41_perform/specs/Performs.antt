@@ -1,5 +1,5 @@
 -- A script that is run against a server: what was read, done and printed. (own)
-use Rattle.std.specs.Prelude.{◌≡◌, ◌≤◌, ◌<◌, ◌⊎◌, ℕ, Bool, true, false, List, [], ◌∷◌, length, max, Some, None}
+use Rattle.std.specs.Prelude.{◌≡◌, ◌≤◌, ◌<◌, ◌⊎◌, ℕ, Bool, true, false, List, [], ◌∷◌, length, max, nat_le, if◌then◌else◌, Result, Ok, Err, Some, None}
 use Rattle.std.specs.declared.option.Option.{Option}
 use Rattle.std.specs.Io.KnownBytes.{append_known}
 use Rattle.n41_xdr.specs.Spelling.{hyper}
@@ -55,12 +55,38 @@ pub record IsWhole (u : Setup) (js : List Event) : Type 0 where
   pub kept : Kept u js
   pub settled : IsSettled u.callers js
 
+-- why no script was read: the source gave none, it failed, or memory was wanting
+abbrev pub ReadFails : PerformFault → Option (List ℕ) → Option (List ℕ) → Type 0
+ReadFails (fault.Script line kind) old new = RefusedSource old new line kind
+ReadFails fault.ReadFault old new = Unit {0}
+ReadFails fault.NoMemory old new = Unit {0}
+ReadFails f old new = ⊥
+
+abbrev pub fails_to_read : {T : Type 0} → Result T PerformFault → Bool
+fails_to_read (Err fault.ReadFault) = true
+fails_to_read r = false
+
+-- why not all was printed: the sink failed and took a part, or memory was wanting and it took nothing
+abbrev pub PrintFails : PerformFault → Option (List ℕ) → Option (List ℕ) → List ℕ → Type 0
+PrintFails fault.WriteFault old new text = TookPart old new text
+PrintFails fault.NoMemory old new text = new ≡ old
+PrintFails f old new text = ⊥
+
+abbrev pub fails_to_print : {T : Type 0} → Result T PerformFault → Bool
+fails_to_print (Err fault.WriteFault) = true
+fails_to_print r = false
+
 -- how a run ended: all was done, sixteen rounds had no reply, or a reply broke the rules
 abbrev pub EndsAs : Option PerformFault → List Event → Type 0
 EndsAs None js = (breach_at js ≡ None) × (rounds js < round_limit)
 EndsAs (Some (fault.Unreachable n)) js = (breach_at js ≡ None) × (n ≡ round_limit) × (round_limit ≤ rounds js)
 EndsAs (Some (fault.Breach p)) js = breach_at js ≡ Some p
 EndsAs (Some f) js = ⊥
+
+-- the fault of a run, by the first breach and the rounds without a reply
+abbrev pub ending : Option ℕ → ℕ → Option PerformFault
+ending (Some p) n = Some (fault.Breach p)
+ending None n = if nat_le round_limit n then Some (fault.Unreachable round_limit) else None
 
 -- the client of a script, at a moment that was given
 abbrev pub IsMade : (ℕ → Bool) → Script → Setup → Type 0
@@ -73,6 +99,11 @@ pub record Runs (given : ℕ → Bool) (s : Script) (js : List Event) (f : Optio
   pub whole : IsWhole setup js
   pub driven : Driven setup.callers js s.lines
   pub ends : EndsAs f js
+
+-- the same, unless memory was wanting
+abbrev pub RunsTo : Option PerformFault → (ℕ → Bool) → Script → List Event → Type 0
+RunsTo (Some fault.NoMemory) given s js = Unit {0}
+RunsTo f given s js = Runs given s js f
 
 -- a script was read and run, and all its answers were printed
 pub record Performed (given : ℕ → Bool) (left left_new taken taken_new : Option (List ℕ)) (js : List Event) (f : Option PerformFault) : Type 0 where
@@ -88,6 +119,12 @@ pub record PartlyPerformed (given : ℕ → Bool) (left left_new taken taken_new
   pub fault : Option PerformFault
   pub runs : Runs given script js fault
   pub printed : TookPart taken taken_new (text js (script_lines script))
+
+-- a script was run, and its answers were printed, by the fault
+abbrev pub Prints : Option PerformFault → (ℕ → Bool) → Script → Option (List ℕ) → Option (List ℕ) → List Event → Type 0
+Prints (Some fault.WriteFault) given s taken taken_new js = (f : Option PerformFault) × Runs given s js f × TookPart taken taken_new (text js (script_lines s))
+Prints (Some fault.NoMemory) given s taken taken_new js = Unit {0}
+Prints f given s taken taken_new js = Runs given s js f × (taken_new ≡ append_known taken (text js (script_lines s)))
 
 -- there was no script to run, so nothing was done
 pub record IsUntouched (taken taken_new : Option (List ℕ)) (js : List Event) : Type 0 where

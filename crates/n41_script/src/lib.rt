@@ -12,5 +12,5 @@ mod tests;
 mod words;
 
 pub use fault::{LineKind, ScriptFault};
-pub use reading::read_script;
+pub use reading::{SCRIPT_LIMIT, read_script};
 pub use script::{Lines, Script, ScriptLine};

@@ -16,7 +16,7 @@ use std::alloc::Global;
 use std::marker::Model;
 
 /// The bytes that a script may have.
-const SCRIPT_LIMIT: usize = 1 << 24;
+pub const SCRIPT_LIMIT: usize = 1 << 24;
 
 /// The callers that a script may have.
 const CALLER_LIMIT: usize = 64;
