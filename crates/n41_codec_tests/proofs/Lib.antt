@@ -1,3 +1,0 @@
-pub mod Attributes
-pub mod Again
-pub mod Answered

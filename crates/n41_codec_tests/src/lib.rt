@@ -1,5 +1,0 @@
-//! Tests of the messages of COMPOUND, through all the crates that read and write them.
-#![tactic(auto)]
-
-#[cfg(test)]
-mod tests;

@@ -1,4 +1,0 @@
-mod Ended
-mod Given
-mod Begun
-mod Steps
