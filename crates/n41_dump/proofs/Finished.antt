@@ -8,7 +8,8 @@ use Rattle.n41_dump.specs.declared.fault.DumpFault.{DumpFault}
 use Rattle.n41_dump.specs.declared.fault.DumpFault.TheVariants.{Limit, ReadFault, WriteFault, NoMemory}
 use Rattle.n41_dump.specs.declared.printer.Printer.{Printer}
 use Rattle.n41_dump.specs.Causes.{Answers, is_read_fault, is_write_fault}
-use Rattle.n41_dump.specs.Dumps.{most_bytes, Gave, IsRead, BeginsDump, IsBegun}
+use Rattle.n41_dump.specs.Dumps.{most_bytes, BeginsDump, IsBegun}
+use Rattle.n41_streams.specs.Streams.{Gave, IsRead}
 use Rattle.n41_dump.specs.Steps.{Reads, PrintsAll, Finishes, Stands}
 use Rattle.std.specs.Io.KnownBytes.{append_known}
 use Rattle.n41_dump.proofs.Printing.{gave_none, gave_more, gave_same, begun_more, stands_begun}
@@ -47,7 +48,7 @@ write_err ReadFault side p left left_new taken taken_new f g h c = later_only f 
 write_err WriteFault side p left left_new taken taken_new f g h c = absurd h
 write_err NoMemory side p left left_new taken taken_new f g h c = later_only f g p.broken c
 
-pub answers : {T : Type 0} (r : Result T DumpFault) (side : Side) (stream : List ℕ) (left left_new taken taken_new : Option (List ℕ)) → IsRead left left_new stream
+pub answers : {T : Type 0} (r : Result T DumpFault) (side : Side) (stream : List ℕ) (left left_new taken taken_new : Option (List ℕ)) → IsRead most_bytes left left_new stream
     → Finishes r side stream taken taken_new → Answers r side left left_new taken taken_new
 answers (Ok x) side stream left left_new taken taken_new read h = record { stream = stream; text = h.0; read = read; dumps = h.1; took = h.2 }
 answers (Err Limit) side stream left left_new taken taken_new read h = absurd h

@@ -20,9 +20,10 @@ use Rattle.n41_lines.specs.declared.last.Last.{Last}
 use Rattle.n41_lines.specs.declared.last.Last.TheVariants.{Rest, Long, Many}
 use Rattle.n41_lines.specs.Lines.{line}
 use Rattle.n41_dump.specs.declared.printer.Printer.{Printer}
-use Rattle.n41_dump.specs.Dumps.{lines, EndsAs, EndsIn, Dumps, Gave, TookPart, BeginsDump}
+use Rattle.n41_dump.specs.Dumps.{lines, EndsAs, EndsIn, Dumps, BeginsDump}
+use Rattle.n41_streams.specs.Streams.{Gave, TookPart}
 use Rattle.n41_dump.specs.Steps.{IsPrinted, Puts, IsFed, Stands, Raises, IsStarted, Steps}
-use Rattle.n41_dump.proofs.Growing.{append_known-append}
+use Rattle.n41_streams.proofs.Growing.{append_known-append}
 
 -- ---- texts
 

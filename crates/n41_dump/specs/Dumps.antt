@@ -1,9 +1,10 @@
 -- What a dump prints of a stream (own).
-use Rattle.std.specs.Prelude.{◌≡◌, ◌≤◌, ◌<◌, ℕ, suc, List, [], ◌∷◌, ◌++◌, length, Bool, true, false}
+use Rattle.std.specs.Prelude.{◌≡◌, ◌<◌, ℕ, suc, List, [], ◌∷◌, ◌++◌, length}
 use Rattle.std.specs.declared.option.Option.{Option}
-use Rattle.std.specs.Io.KnownBytes.{prepend_known, append_known, IsAtEnd}
+use Rattle.std.specs.Io.KnownBytes.{append_known}
 use Rattle.n41_record.specs.declared.fault.GatherFault.TheVariants.{TooLong, TooMany}
 use Rattle.n41_record.specs.Streams.{Records, Refused, BeginsWith}
+use Rattle.n41_streams.specs.Streams.{Gave, IsRead, TookPart}
 use Rattle.n41_lines.specs.declared.side.Side.{Side}
 use Rattle.n41_lines.specs.declared.last.Last.{Last}
 use Rattle.n41_lines.specs.declared.last.Last.TheVariants.{Rest, Long, Many}
@@ -37,28 +38,11 @@ pub record Dumps (side : Side) (stream text : List ℕ) : Type 0 where
   pub ends : EndsIn stream list final
   pub spelled : text ≡ lines side 1 list ++ final
 
--- the source gave this stream
-abbrev pub Gave : Option (List ℕ) → Option (List ℕ) → List ℕ → Type 0
-Gave old new stream = old ≡ prepend_known stream new
-
--- the source was read to its end, and gave no more than a stream may have
-pub record IsRead (old new : Option (List ℕ)) (stream : List ℕ) : Type 0 where
-  pub gave : Gave old new stream
-  pub ended : IsAtEnd new
-  pub within : length stream ≤ most_bytes
-
--- the sink took a part of a text
-pub record TookPart (old new : Option (List ℕ)) (text : List ℕ) : Type 0 where
-  pub part : List ℕ
-  pub more : List ℕ
-  pub cut : text ≡ part ++ more
-  pub took : new ≡ append_known old part
-
 -- all of the source was dumped
 pub record IsDumped (side : Side) (left left_new taken taken_new : Option (List ℕ)) : Type 0 where
   pub stream : List ℕ
   pub text : List ℕ
-  pub read : IsRead left left_new stream
+  pub read : IsRead most_bytes left left_new stream
   pub dumps : Dumps side stream text
   pub took : taken_new ≡ append_known taken text
 
@@ -66,7 +50,7 @@ pub record IsDumped (side : Side) (left left_new taken taken_new : Option (List 
 pub record IsPartlyDumped (side : Side) (left left_new taken taken_new : Option (List ℕ)) : Type 0 where
   pub stream : List ℕ
   pub text : List ℕ
-  pub read : IsRead left left_new stream
+  pub read : IsRead most_bytes left left_new stream
   pub dumps : Dumps side stream text
   pub took : TookPart taken taken_new text
 

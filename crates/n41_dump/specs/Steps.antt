@@ -9,7 +9,8 @@ use Rattle.n41_lines.specs.declared.side.Side.{Side}
 use Rattle.n41_dump.specs.declared.printer.Printer.{Printer}
 use Rattle.n41_dump.specs.declared.fault.DumpFault.{DumpFault}
 use Rattle.n41_dump.specs.declared.fault.DumpFault.TheVariants.{Limit, ReadFault, WriteFault, NoMemory}
-use Rattle.n41_dump.specs.Dumps.{most_bytes, lines, Dumps, Gave, IsRead, TookPart, BeginsDump, IsBegun, IsTooLong}
+use Rattle.n41_dump.specs.Dumps.{most_bytes, lines, Dumps, BeginsDump, IsBegun, IsTooLong}
+use Rattle.n41_streams.specs.Streams.{Gave, IsRead, TookPart}
 
 -- What was printed of a text: all of it, or, where writing has failed, a part.
 abbrev pub IsPrinted : Bool → Option (List ℕ) → Option (List ℕ) → List ℕ → Type 0
@@ -67,7 +68,7 @@ pub record IsStarted (p : Printer) : Type 0 where
 
 -- All records of the source were printed, or those before a fault.
 abbrev pub PrintsAll : {T : Type 0} → Result T DumpFault → Side → Printer → Option (List ℕ) → Option (List ℕ) → Option (List ℕ) → Option (List ℕ) → Type 0
-PrintsAll (Ok x) side p left left_new taken taken_new = (stream : List ℕ) × IsRead left left_new stream × Stands p stream taken taken_new × (p.gather.waiting ≡ []) × (p.side ≡ side)
+PrintsAll (Ok x) side p left left_new taken taken_new = (stream : List ℕ) × IsRead most_bytes left left_new stream × Stands p stream taken taken_new × (p.gather.waiting ≡ []) × (p.side ≡ side)
 PrintsAll (Err Limit) side p left left_new taken taken_new = IsTooLong side left left_new taken taken_new
 PrintsAll (Err ReadFault) side p left left_new taken taken_new = IsBegun side left left_new taken taken_new
 PrintsAll (Err WriteFault) side p left left_new taken taken_new = ⊥

@@ -5,12 +5,10 @@ mod dumping;
 mod fault;
 mod piece;
 mod printer;
-mod sinking;
 
 pub use dumping::dump;
 pub use fault::DumpFault;
 pub use n41_lines::Side;
-pub use sinking::put_all;
 
 #[cfg(test)]
 mod tests;

@@ -3,7 +3,8 @@ ghost use Rattle.std.specs.Prelude.{◌≡◌, ◌≤◌, ◌<◌, ◌+◌, ℕ,
 ghost use Rattle.std.specs.Io.KnownBytes.{IsAtEnd};
 ghost use Rattle.n41_link.specs.Counts.{Counts};
 ghost use Rattle.n41_dump.specs.Causes.{is_read_fault};
-ghost use Rattle.n41_dump.specs.Dumps.{most_bytes, Gave};
+ghost use Rattle.n41_dump.specs.Dumps.{most_bytes};
+ghost use Rattle.n41_streams.specs.Streams.{Gave};
 ghost use Rattle.n41_dump.specs.Steps.{Reads};
 
 use crate::DumpFault;

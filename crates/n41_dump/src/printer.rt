@@ -8,10 +8,10 @@ ghost use Rattle.n41_dump.specs.Dumps.{most_bytes, EndsAs, EndsIn};
 ghost use Rattle.n41_dump.specs.Steps.{IsFed, Puts, Raises, Stands, Steps, Finishes};
 
 use crate::DumpFault;
-use crate::sinking::put_all;
 use n41_lines::{Last, Side, last_line, line};
 use n41_link::Sink;
 use n41_record::{Gather, GatherFault};
+use n41_streams::put_all;
 use n41_types::NoMemory;
 use std::alloc::{AllocError, Global};
 

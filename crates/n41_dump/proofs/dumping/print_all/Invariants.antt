@@ -1,6 +1,7 @@
 use Rattle.std.proofs.Common.{◌≡◌, ◌≤◌, ◌-◌, ℕ, List, [], length}
 use Rattle.n41_link.specs.Counts.{Counts}
-use Rattle.n41_dump.specs.Dumps.{most_bytes, Gave}
+use Rattle.n41_dump.specs.Dumps.{most_bytes}
+use Rattle.n41_streams.specs.Streams.{Gave}
 use Rattle.n41_dump.specs.Steps.{Stands}
 use Rattle.n41_dump.proofs.dumping.print_all.Given as goal
 
