@@ -11,8 +11,6 @@ mod packet;
 mod posts;
 mod puts;
 mod takes;
-#[cfg(test)]
-mod tests;
 mod ticks;
 
 pub use client::Core;

@@ -17,6 +17,3 @@ pub use inlet::Inlet;
 pub use laws::replies_stand_first;
 pub use outlet::Outlet;
 pub use wire::Wire;
-
-#[cfg(test)]
-mod tests;

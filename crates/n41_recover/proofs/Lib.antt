@@ -1,5 +1,0 @@
-pub mod Plans
-pub mod Leases
-pub mod Owns
-pub mod Alone
-pub mod Steps

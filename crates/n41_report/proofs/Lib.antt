@@ -1,3 +1,0 @@
-pub mod Octal
-pub mod Kept
-pub mod Printed
