@@ -10,7 +10,8 @@ use Rattle.n41_types.specs.declared.plans.SlotUse.{SlotUse}
 use Rattle.n41_attr.specs.Bitmaps as bitmaps
 use Rattle.n41_attr.specs.Parts.{owner_bytes, verifier, session, always_zero, bitmap}
 use Rattle.n41_session_args.specs.Security.{securities, callback_security}
-use Rattle.n41_session_args.specs.Sessions.{exchange_id, impl_option, create_session, channel, bind, sequence}
+use Rattle.n41_shared.specs.Sessions.{impl_option, channel}
+use Rattle.n41_session_args.specs.Sessions.{exchange_id, create_session, bind, sequence}
 use Rattle.n41_rpc.specs.Heads.{head, spoken, called, cred, system, system_of, written_call}
 use Rattle.n41_args.specs.declared.arg.Arg.{Arg}
 use Rattle.n41_args.specs.declared.arg.Arg.TheVariants as arg
