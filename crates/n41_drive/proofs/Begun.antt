@@ -142,20 +142,6 @@ left_acts s t w Idle h = left_at s s t h.1 (left_same s)
 pub left_turn : (s t : State) (x : Turn) → TakesTurn s t x → Left s t
 left_turn s t x h = left_then s h.between t (left_noted s h.between h.at h.answers h.noted) (left_acts h.between t h.wanted x h.acts)
 
--- ---- the end of the commands
-
-pub left_finish : (b : Bool) (s t : State) → quit s.events ≡ b → t ≡ (if b then s else appends s Quit) → (c : ℕ) → begun_by t.events c ≡ begun_by s.events c
-left_finish true s t q e c = ap (λ (x : State). begun_by x.events c) e
-left_finish false s t q e c = ap (λ (x : State). begun_by x.events c) e
-
-pub failures_finish : (b : Bool) (s t : State) → t ≡ (if b then s else appends s Quit) → failures t.events ≡ failures s.events
-failures_finish true s t e = ap (λ (x : State). failures x.events) e
-failures_finish false s t e = ap (λ (x : State). failures x.events) e
-
-pub setup_finish : (b : Bool) (s t : State) → t ≡ (if b then s else appends s Quit) → t.setup ≡ s.setup
-setup_finish true s t e = ap (λ (x : State). x.setup) e
-setup_finish false s t e = ap (λ (x : State). x.setup) e
-
 -- ---- commands
 
 no_fault : (a b d : Bool) (x y z : PostFault) → (if a then Some x else if b then Some y else if d then Some z else None) ≡ None → d ≡ false
@@ -222,13 +208,3 @@ posts_noted s t h =
     let l = left_maybe s t h in
     record { setup_is = l.setup_is; quit_is = l.quit_is; failures_are = failures_maybe s t h; held = λ q. l.begun_are }
 
-pub posts_none : (s : State) → PostsOnly s s
-posts_none s = record { setup_is = refl; quit_is = refl; failures_are = refl; held = λ q c. refl }
-
-pub posts_then : (s t v : State) → PostsOnly s t → PostsOnly t v → PostsOnly s v
-posts_then s t v g h = record {
-  setup_is = h.setup_is ∙ g.setup_is;
-  quit_is = h.quit_is ∙ g.quit_is;
-  failures_are = h.failures_are ∙ g.failures_are;
-  held = λ q c. h.held (g.quit_is ∙ q) c ∙ g.held q c;
-}

@@ -1,7 +1,7 @@
 -- The commands that lines give to a caller.
 use Rattle.std.proofs.Common.{◌≡◌, ◌≢◌, ◌⊎◌, ℕ, zero, suc, ◌+◌, ◌<◌, ◌≤◌, ◌==◌, Bool, true, false, List, [], ◌∷◌, ◌++◌, length, take, get_or, slice_get, Option, Some, None, if◌then◌else◌, refl, sym, ◌∙◌, ap, subst, arith}
 use Rattle.std.proofs.lemmas.Bool.Decides.{nat_tests}
-use Rattle.std.proofs.lemmas.List.{take_more, take_all}
+use Rattle.std.proofs.lemmas.List.{take_more}
 use Rattle.std.proofs.lemmas.Option.{get_or_from_slice_get}
 use Rattle.std.specs.Prelude.{IsSome}
 use Rattle.n41_types.specs.declared.commands.Command.{Command}
@@ -46,10 +46,6 @@ pub given_more : (c : ℕ) (ls : List ScriptLine) (i : ℕ) (l : ScriptLine) →
 given_more c ls i l h e d =
     let t : (l.caller == c) ≡ true = grind (arith, nat_tests, d) in
     taken_more c ls i l h e ∙ ap (λ (ks : List Command). commands_of c (take i ls) ++ ks) (one_of (l.caller == c) l.command t)
-
--- behind the last line there is no more
-pub all_given : (c : ℕ) (ls : List ScriptLine) (i : ℕ) → length ls ≤ i → commands_of c (take i ls) ≡ commands_of c ls
-all_given c ls i h = ap (commands_of c) (take_all i ls h)
 
 some_is : (x y : ScriptLine) → Some x ≡ Some y → x ≡ y
 some_is x y e = cc

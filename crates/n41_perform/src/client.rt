@@ -19,6 +19,7 @@ pub(crate) fn callers_of(script: &Script) -> u32
     }
 }
 
+#[tactic(auto, unfolding(n41_xdr::specs::Spelling::hyper))]
 /// A client for the callers of a script, which has done nothing yet.
 pub(crate) fn make_client(alloc: Global, script: &Script, moment: u64) -> Result<Core, NoMemory>
     requires few { length script.now.callers ≤ 64 }
