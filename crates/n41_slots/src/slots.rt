@@ -241,6 +241,7 @@ impl Slots {
     }
 
     /// How many requests are out.
+    #[tactic(auto, using(crate::proofs::Counts::count_most))]
     pub fn out(&self) -> u32
         ensures value { result ≡ count self.now.slots }
         ensures few { result ≤ 64 }
