@@ -1,5 +1,5 @@
 -- From the pieces of a stream to its dump.
-use Rattle.std.proofs.Common.{◌≡◌, ◌≤◌, ◌<◌, ◌+◌, ◌∙◌, ap, sym, subst, ℕ, List, [], ◌++◌, length, take, arith, length-append, append_assoc, append-nil, refl, None, Some, Ok, Err, Result, Bool, true, false}
+use Rattle.std.proofs.Common.{◌≡◌, ◌≤◌, ◌+◌, ◌∙◌, ap, sym, subst, ℕ, List, [], ◌++◌, length, take, arith, length-append, append-nil, refl, None, Some, Ok, Err, Result, false}
 use Rattle.std.proofs.lemmas.List.{length-take-le}
 use Rattle.std.specs.declared.option.Option.{Option}
 use Rattle.n41_link.specs.Counts.{Counts}
@@ -7,46 +7,29 @@ use Rattle.n41_lines.specs.declared.side.Side.{Side}
 use Rattle.n41_dump.specs.declared.fault.DumpFault.{DumpFault}
 use Rattle.n41_dump.specs.declared.fault.DumpFault.TheVariants.{Limit, ReadFault, WriteFault, NoMemory}
 use Rattle.n41_dump.specs.declared.printer.Printer.{Printer}
-use Rattle.n41_dump.specs.Causes.{Answers, is_read_fault, is_write_fault}
+use Rattle.n41_dump.specs.Causes.{Answers, is_read_fault}
 use Rattle.n41_dump.specs.Dumps.{most_bytes, BeginsDump, IsBegun}
 use Rattle.n41_streams.specs.Streams.{Gave, IsRead}
-use Rattle.n41_dump.specs.Steps.{Reads, PrintsAll, Finishes, Stands}
+use Rattle.n41_dump.specs.Steps.{Reads, PrintsAll, Finishes}
 use Rattle.std.specs.Io.KnownBytes.{append_known}
-use Rattle.n41_dump.proofs.Printing.{gave_none, gave_more, gave_same, begun_more, stands_begun}
+use Rattle.n41_dump.proofs.Printing.{gave_none, gave_more, gave_same, begun_more}
 
 -- a read that ended the dump
-pub stopped : {T : Type 0} (e : DumpFault) (side : Side) (p : Printer) (stream : List ℕ) (start taken left left_mid left_new : Option (List ℕ)) (room : List ℕ) (came came_new : ℕ)
-    → Gave left left_mid stream → came ≡ length stream → BeginsDump side stream start taken → Reads (Err e) left_mid left_new room came came_new → PrintsAll {T} (Err e) side p left left_new start taken
-stopped Limit side p stream start taken left left_mid left_new room came came_new gave count begun r = record {
+pub stopped : (T : Type 0) (e : DumpFault) (side : Side) (p : Printer) (stream : List ℕ) (start taken left left_mid left_new : Option (List ℕ)) (room : List ℕ) (came came_new : ℕ)
+    → Gave left left_mid stream → came ≡ length stream → BeginsDump side stream start taken → Reads (Err e) left_mid left_new room came came_new → PrintsAll {T = T} (Err e) side p left left_new start taken
+stopped T Limit side p stream start taken left left_mid left_new room came came_new gave count begun r = record {
   stream = stream ++ r.0;
   gave = gave_more left left_mid left_new stream r.0 gave r.1;
   long = omega (arith, r.2, count, length-append stream r.0);
   begun = begun_more side stream r.0 start taken begun;
 }
-stopped ReadFault side p stream start taken left left_mid left_new room came came_new gave count begun r = record { stream = stream; gave = gave_same left left_mid left_new stream gave r; begun = begun }
-stopped WriteFault side p stream start taken left left_mid left_new room came came_new gave count begun r = absurd r
-stopped NoMemory side p stream start taken left left_mid left_new room came came_new gave count begun r = absurd r
+stopped T ReadFault side p stream start taken left left_mid left_new room came came_new gave count begun r = record { stream = stream; gave = gave_same left left_mid left_new stream gave r; begun = begun }
+stopped T WriteFault side p stream start taken left left_mid left_new room came came_new gave count begun r = absurd r
+stopped T NoMemory side p stream start taken left left_mid left_new room came came_new gave count begun r = absurd r
 
 -- nothing came of the last read
 pub gave_at_end : (a b c : Option (List ℕ)) (stream room : List ℕ) (n : ℕ) → n ≡ 0 → Gave a b stream → Gave b c (take n room) → Gave a c stream
 gave_at_end a b c stream room n e g h = subst (λ (t : List ℕ). Gave a c t) (ap (λ (k : ℕ). stream ++ take k room) e ∙ append-nil stream) (gave_more a b c stream (take n room) g h)
-
-pub answers_err : {T : Type 0} (e : DumpFault) (side : Side) (p : Printer) (left left_new taken taken_new : Option (List ℕ)) → PrintsAll {T} (Err e) side p left left_new taken taken_new
-    → Answers {T} (Err e) side left left_new taken taken_new
-answers_err Limit side p left left_new taken taken_new h = h
-answers_err ReadFault side p left left_new taken taken_new h = h
-answers_err WriteFault side p left left_new taken taken_new h = absurd h
-answers_err NoMemory side p left left_new taken taken_new h = h
-
-later_only : (f g : ℕ) (b : Bool) → Counts f g b → Counts f g false
-later_only f g b c = record { later = c.later; rose = λ t. absurd (cc t) }
-
-pub write_err : {T : Type 0} (e : DumpFault) (side : Side) (p : Printer) (left left_new taken taken_new : Option (List ℕ)) (f g : ℕ) → PrintsAll {T} (Err e) side p left left_new taken taken_new
-    → Counts f g p.broken → Counts f g (is_write_fault {T} (Err e))
-write_err Limit side p left left_new taken taken_new f g h c = later_only f g p.broken c
-write_err ReadFault side p left left_new taken taken_new f g h c = later_only f g p.broken c
-write_err WriteFault side p left left_new taken taken_new f g h c = absurd h
-write_err NoMemory side p left left_new taken taken_new f g h c = later_only f g p.broken c
 
 pub answers : {T : Type 0} (r : Result T DumpFault) (side : Side) (stream : List ℕ) (left left_new taken taken_new : Option (List ℕ)) → IsRead most_bytes left left_new stream
     → Finishes r side stream taken taken_new → Answers r side left left_new taken taken_new

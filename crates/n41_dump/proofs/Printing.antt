@@ -1,14 +1,13 @@
 -- What was printed of a stream, as it goes on.
-use Rattle.std.proofs.Common.{◌≡◌, ◌≤◌, ◌<◌, ◌+◌, ◌*◌, ◌∙◌, ap, sym, subst, ℕ, suc, List, [], ◌∷◌, ◌++◌, length, arith, length-append, append_assoc, append-nil, refl, take, drop, None, Some, Ok, Err, Result, Bool, true, false, inl}
+use Rattle.std.proofs.Common.{◌≡◌, ◌≤◌, ◌+◌, ◌∙◌, ap, sym, subst, ℕ, suc, List, [], ◌∷◌, ◌++◌, length, arith, length-append, append_assoc, append-nil, refl, take, drop, None, Some, Ok, Err, Result, Bool, true, false, inl}
 use Rattle.std.proofs.lemmas.List.{take-append-drop}
 use Rattle.std.specs.Result.{is_err}
 use Rattle.std.specs.Prelude.{IsSome, OnOk, OnErr}
-use Rattle.std.specs.List.{concat}
 use Rattle.std.specs.declared.option.Option.{Option}
 use Rattle.std.specs.Io.KnownBytes.{prepend_known, append_known}
 use Rattle.n41_record.specs.declared.fault.GatherFault.{GatherFault}
 use Rattle.n41_record.specs.declared.fault.GatherFault.TheVariants.{TooLong, TooMany, NoMemory}
-use Rattle.n41_record.specs.Fragments.{header, earlier, fragment, IsFragments}
+use Rattle.n41_record.specs.Fragments.{header, earlier, fragment}
 use Rattle.n41_record.specs.Streams.{AreRecords, Records, Refused, BeginsWith}
 use Rattle.n41_record.specs.Gathered.{Gathered, IsReadAs, IsStanding, Leaves}
 use Rattle.n41_record.proofs.Spelled.{length-header}
@@ -16,13 +15,12 @@ use Rattle.n41_record.proofs.Cut.{refused_stays}
 use Rattle.n41_link.specs.Counts.{Counts}
 use Rattle.n41_link.proofs.Records.{gives_first, refused}
 use Rattle.n41_lines.specs.declared.side.Side.{Side}
-use Rattle.n41_lines.specs.declared.last.Last.{Last}
 use Rattle.n41_lines.specs.declared.last.Last.TheVariants.{Rest, Long, Many}
 use Rattle.n41_lines.specs.Lines.{line}
 use Rattle.n41_dump.specs.declared.printer.Printer.{Printer}
 use Rattle.n41_dump.specs.Dumps.{lines, EndsAs, EndsIn, Dumps, BeginsDump}
 use Rattle.n41_streams.specs.Streams.{Gave, TookPart}
-use Rattle.n41_dump.specs.Steps.{IsPrinted, Puts, IsFed, Stands, Raises, IsStarted, Steps}
+use Rattle.n41_dump.specs.Steps.{IsPrinted, Puts, IsFed, Stands, Raises, IsStarted}
 use Rattle.n41_streams.proofs.Growing.{append_known-append}
 
 -- ---- texts

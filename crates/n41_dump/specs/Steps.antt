@@ -3,7 +3,7 @@ use Rattle.std.specs.Prelude.{◌≡◌, ◌≤◌, ◌<◌, ◌+◌, ℕ, List,
 use Rattle.std.specs.declared.option.Option.{Option}
 use Rattle.std.specs.Io.KnownBytes.{append_known, IsAtEnd}
 use Rattle.n41_record.specs.declared.fault.GatherFault.{GatherFault}
-use Rattle.n41_record.specs.Gathered.{Gathered, IsStanding}
+use Rattle.n41_record.specs.Gathered.{IsStanding}
 use Rattle.n41_link.specs.Counts.{Counts}
 use Rattle.n41_lines.specs.declared.side.Side.{Side}
 use Rattle.n41_dump.specs.declared.printer.Printer.{Printer}
