@@ -1,0 +1,10 @@
+pub mod Calls
+pub mod Heads
+pub mod Parts
+pub mod Singles
+pub mod Readings
+pub mod States
+pub mod Changes
+pub mod Walks
+pub mod Plans
+pub mod Nameless

@@ -1,0 +1,5 @@
+pub mod Plans
+pub mod Leases
+pub mod Owns
+pub mod Alone
+pub mod Steps

@@ -1,0 +1,3 @@
+pub mod Octal
+pub mod Kept
+pub mod Printed

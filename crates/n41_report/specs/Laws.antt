@@ -1,0 +1,11 @@
+-- What the printed text is for a run.
+use Rattle.std.specs.Prelude.{◌≡◌, List}
+use Rattle.n41_journal.specs.declared.events.Event.{Event}
+use Rattle.n41_model.specs.Answers.{breach_at}
+use Rattle.n41_model.specs.Text.{text}
+use Rattle.n41_script.specs.declared.script.Script.{Script}
+use Rattle.n41_report.specs.Text.{script_lines, script_text}
+
+-- with the first breach of its journal it is the text of the run
+abbrev pub IsTextOfRun : Type 0
+IsTextOfRun = (js : List Event) (s : Script) → script_text (breach_at js) js s ≡ text js (script_lines s)
