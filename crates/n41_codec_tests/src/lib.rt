@@ -1,0 +1,5 @@
+//! Tests of the messages of COMPOUND, through all the crates that read and write them.
+#![tactic(auto)]
+
+#[cfg(test)]
+mod tests;
