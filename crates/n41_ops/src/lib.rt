@@ -11,3 +11,6 @@ mod sessions;
 
 pub use laws::{results_are_lawful, what_is_written_is_read};
 pub use results::{read_res, write_res};
+
+#[cfg(test)]
+mod tests;

@@ -16,3 +16,6 @@ mod writing;
 
 pub use laws::{small_requests, what_is_spelled_is_asked};
 pub use spelling::{request_fits, spell};
+
+#[cfg(test)]
+mod tests;
