@@ -146,35 +146,96 @@ try_server() {
     report "the server's ids" $? "status $(cat "$state/server.status"), printed '$line', fault '$(cat "$state/server.err")'"
 }
 
+# listen NAME: tshark writes what goes to and from the server into NAME.capture, where it is installed, until it is hushed
+listen() {
+    listener=
+    command -v tshark >/dev/null || return 0
+    tshark -i lo -f "tcp port $server_port" -w "$state/$1.capture" -q >"$state/$1.listener" 2>&1 &
+    listener=$!
+    started+=("$listener")
+    sleep 3
+}
+
+hush() {
+    [ -n "$listener" ] || return 0
+    sleep 2
+    kill "$listener"
+    wait_gone "$listener"
+}
+
+# unmarred NAME: tshark finds nothing malformed in NAME.capture, which has messages
+unmarred() {
+    [ -n "$listener" ] || return 0
+    tshark -r "$state/$1.capture" -d "tcp.port==$server_port,rpc" -Y "nfs && rpc" >"$state/$1.read" 2>"$state/$1.fault"
+    tshark -r "$state/$1.capture" -d "tcp.port==$server_port,rpc" -Y "_ws.malformed" >"$state/$1.marred" 2>>"$state/$1.fault"
+    [ -s "$state/$1.read" ] && [ ! -s "$state/$1.marred" ]
+    report "tshark finds nothing malformed in $1" $? "$(head -n 3 "$state/$1.marred" "$state/$1.fault")"
+}
+
 # Asks the server for one of nearly everything, while tshark listens where it is installed, and dumps both sides: without a record that is none, and with the
 # operations and statuses that tshark reads.
 try_dump() {
-    local folder=$state/spoken side listener=
+    local folder=$state/spoken side
     mkdir -p "$folder"
-    if command -v tshark >/dev/null; then
-        tshark -i lo -f "tcp port $server_port" -w "$folder/capture" -q >"$folder/listener" 2>&1 &
-        listener=$!
-        started+=("$listener")
-        sleep 3
-    fi
+    listen spoken
     python3 "$tools/speak.py" "$server_port" "$folder" >"$folder/said" 2>&1
     report "one of nearly everything" $? "$(head -n 3 "$folder/said")"
-    if [ -n "$listener" ]; then
-        sleep 2
-        kill "$listener"
-        wait_gone "$listener"
-    fi
+    hush
     for side in client server; do
         start "dump-$side" "$folder/$side" dump "$side"
         [ "$(cat "$state/dump-$side.status")" = 0 ] && [ "$(wc -l <"$state/dump-$side.out")" -gt 20 ] &&
             [ "$(tail -n 1 "$state/dump-$side.out")" = "rest 0" ] && ! grep -q " bad " "$state/dump-$side.out"
         report "the dump of what the $side wrote" $? "status $(cat "$state/dump-$side.status"), $(grep -m 1 " bad " "$state/dump-$side.out")"
         if [ -n "$listener" ]; then
-            python3 "$tools/told.py" "$folder/capture" "$server_port" "$side" >"$folder/$side.told" 2>"$folder/$side.fault" &&
+            python3 "$tools/told.py" "$state/spoken.capture" "$server_port" "$side" >"$folder/$side.told" 2>"$folder/$side.fault" &&
                 diff "$state/dump-$side.out" "$folder/$side.told" >"$folder/$side.diff"
             report "the same as tshark reads of the $side" $? "$(head -n 4 "$folder/$side.diff" "$folder/$side.fault" 2>/dev/null)"
         fi
     done
+}
+
+# relay NAME EVERY: starts a relay to the server, which loses every so many records of the server, and waits for its port; what passed is in the folder NAME.wire
+relay() {
+    local turn
+    mkdir -p "$state/$1.wire"
+    python3 "$tools/relay.py" "$state/$1.port" "$server_port" "$2" "$state/$1.wire" 2>"$state/$1.peer" &
+    started+=($!)
+    for turn in $(seq 100); do
+        [ -f "$state/$1.port" ] && return 0
+        sleep 0.05
+    done
+    echo 1 >"$state/$1.port"
+}
+
+# The first answer of a stat of the root, as the server gives it.
+root="1 a stat type 2 size [0-9]+ fileid [0-9]+ mode 0[0-7]{3}"
+
+try_stat() {
+    relay stat 0
+    echo "a stat /" >"$state/stat.script"
+    listen stat
+    start stat "$state/stat.script" run "127.0.0.1:$(cat "$state/stat.port")"
+    [ "$(cat "$state/stat.status")" = 0 ] && [ ! -s "$state/stat.err" ] && [[ $(cat "$state/stat.out") =~ ^$root$ ]]
+    report "a stat of the server's root" $? "status $(cat "$state/stat.status"), printed '$(cat "$state/stat.out")', fault '$(cat "$state/stat.err")'"
+    hush
+    unmarred stat
+}
+
+# 64 callers with 50 commands each, while every 40th record of the server is lost with its connection
+try_many() {
+    local caller
+    relay many 40
+    for caller in $(seq 64); do
+        yes "c$caller stat /" | head -n 50
+    done >"$state/many.script"
+    listen many
+    start many "$state/many.script" run "127.0.0.1:$(cat "$state/many.port")"
+    [ "$(cat "$state/many.status")" = 0 ] && [ "$(grep -cE "^[0-9]+ c[0-9]+ stat type 2 " "$state/many.out")" -eq 3200 ] &&
+        [ "$(cat "$state/many.wire/cuts")" -gt 40 ]
+    report "64 callers through $(cat "$state/many.wire/cuts" 2>/dev/null) cuts" $? \
+        "status $(cat "$state/many.status"), $(wc -l <"$state/many.out") lines, fault '$(cat "$state/many.err")'"
+    hush
+    unmarred many
 }
 
 try_nobody() {
@@ -199,6 +260,8 @@ started+=("$silent_pid")
 
 try_server
 try_dump
+try_stat
+try_many
 try_nobody
 answered_by answer answer
 expect answer 0 "$line" ""
