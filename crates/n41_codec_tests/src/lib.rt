@@ -4,4 +4,6 @@
 #[cfg(test)]
 mod callbacks;
 #[cfg(test)]
+mod results;
+#[cfg(test)]
 mod tests;

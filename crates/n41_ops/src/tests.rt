@@ -2,13 +2,12 @@ ghost use Rattle.std.specs.Prelude.{IfOk};
 ghost use Rattle.n41_ops.specs.Results.{told_res, written_res};
 
 use super::*;
-use n41_attr::{AttrFault, OpFault};
 use n41_results::{
     Ace, ChangeInfo, Delegation, Entries, Entry, Identity, Limit, Listing, LockDenied, LockRefusal,
     LockType, Opened, Res,
 };
 use n41_types::{Attrs, Bytes, Owner, Sequence, Stateid, Status};
-use n41_xdr::{Reader, Writer, XdrFault};
+use n41_xdr::{Reader, Writer};
 use std::alloc::{AllocError, Global};
 
 /// What a server answers to EXCHANGE_ID: client 7, sequence 1, and the major id and the scope `srv`.
@@ -64,15 +63,6 @@ fn is_read_as(alloc: Global, bytes: &[u8], want: Result<Res, AllocError>) -> boo
     match want {
         Ok(want) => is_read(alloc, bytes, &want),
         Err(_) => false,
-    }
-}
-
-/// Whether the bytes are refused with this fault, and none is taken.
-fn has_fault(alloc: Global, bytes: &[u8], want: OpFault) -> bool {
-    let mut reader = Reader::new(bytes);
-    match read_res(alloc, &mut reader) {
-        Ok(_) => false,
-        Err(fault) => fault == want && reader.len() == bytes.len(),
     }
 }
 
@@ -248,45 +238,4 @@ fn results_are_written(rt: HostRuntime) {
     assert!(rt; identity);
     let denial = denial_is_written(rt.alloc());
     assert!(rt; denial);
-}
-
-#[test]
-fn what_is_no_result_is_refused(rt: HostRuntime) {
-    let number = has_fault(rt.alloc(), b"\0\0\0\x0b\0\0\0\0", OpFault::Illegal(11));
-    assert!(rt; number);
-    // OP_ILLEGAL is never OK.
-    let status = has_fault(
-        rt.alloc(),
-        b"\0\0'<\0\0\0\0",
-        OpFault::Xdr(XdrFault::BadArm(0)),
-    );
-    assert!(rt; status);
-}
-
-#[test]
-fn what_is_no_part_of_a_result_is_refused(rt: HostRuntime) {
-    // An attribute that is not known.
-    let attribute = has_fault(
-        rt.alloc(),
-        b"\0\0\0\x09\0\0\0\0\0\0\0\x01\0\0\0\x01\0\0\0\0",
-        OpFault::Attr(AttrFault::Unknown(0)),
-    );
-    assert!(rt; attribute);
-    // A lock of no kind.
-    let kind = has_fault(
-        rt.alloc(),
-        b"\0\0\0\x0d\0\0'\x1a\0\0\0\0\0\0\0\0\0\0\0\0\0\0\0\x01\0\0\0\x05",
-        OpFault::Xdr(XdrFault::BadArm(5)),
-    );
-    assert!(rt; kind);
-}
-
-#[test]
-fn a_count_takes_no_memory_before_its_statuses_are_there(rt: HostRuntime) {
-    let short = has_fault(
-        rt.alloc(),
-        b"\0\0\07\0\0\0\0\xff\xff\xff\xff\0\0\0\0",
-        OpFault::Xdr(XdrFault::Short { need: 4, have: 0 }),
-    );
-    assert!(rt; short);
 }
