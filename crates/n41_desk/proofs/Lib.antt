@@ -1,0 +1,9 @@
+mod Events
+mod Fates
+mod Small
+mod Heard
+mod Taken
+mod Linked
+mod Lined
+mod Noted
+mod Acted
