@@ -7,3 +7,4 @@ mod Linked
 mod Lined
 mod Noted
 mod Acted
+mod Held

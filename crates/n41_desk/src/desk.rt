@@ -49,7 +49,7 @@ where
         ensures core { desk_state result ≡ core }
         ensures dialer { desk_dialer result ≡ dialer }
         ensures clock { desk_clock result ≡ clock }
-        ensures holds { Holds result }
+        ensures holds { Holds C.given result }
     {
         Desk {
             core,
@@ -100,14 +100,14 @@ where
     /// Begins a command of a caller, at the clock's moment. Where it does not begin, only that moment is noted: where there is no such caller,
     /// where the caller's last command is unanswered, where no more commands come, or for want of memory.
     pub fn post(&mut self, caller: u32, command: Command) -> Result<Ticket, PostFault>
-        requires holds { Holds self.old }
+        requires holds { Holds C.given self.old }
         requires built { IsSome (next_plan (Some command)) }
         ensures ok { IfOk result (λ ticket. Posts (desk_state self.old) (desk_state self.new) caller command ticket) }
         ensures err { OnErr result (IsNoted (desk_state self.old) (desk_state self.new)) }
         ensures cause { IfErr result (λ fault. PostCause (desk_state self.new) caller fault) }
         ensures dialer { desk_dialer self.new ≡ desk_dialer self.old }
         ensures tells { C.tells (desk_clock self.new) ≡ C.tells (desk_clock self.old) }
-        ensures holds { Holds self.new }
+        ensures holds { Holds C.given self.new }
     {
         match note(&mut self.core, &mut self.clock) {
             Ok(()) => self.core.post(caller, command),
@@ -120,12 +120,12 @@ where
 
     /// No more commands come.
     pub fn finish(&mut self) -> Result<(), NoMemory>
-        requires holds { Holds self.old }
+        requires holds { Holds C.given self.old }
         ensures ok { OnOk result (desk_state self.new ≡ (if quit (desk_state self.old).events then desk_state self.old else appends (desk_state self.old) EventValue.Quit)) }
         ensures err { OnErr result (desk_state self.new ≡ desk_state self.old) }
         ensures dialer { desk_dialer self.new ≡ desk_dialer self.old }
         ensures clock { desk_clock self.new ≡ desk_clock self.old }
-        ensures holds { Holds self.new }
+        ensures holds { Holds C.given self.new }
     {
         self.core.finish()
     }
@@ -134,12 +134,12 @@ where
     /// once, or lets 100 milliseconds pass. It is idle exactly where the core wants nothing. For want of memory nothing is done, save that the
     /// clock's moment may be noted; but where it is wanting for a request that was put, or for what comes, the connection breaks.
     pub fn turn(&mut self, alloc: Global, addr: &str) -> Result<Turn, NoMemory>
-        requires holds { Holds self.old }
+        requires holds { Holds C.given self.old }
         ensures ok { IfOk result (λ turn. TakesTurn (WasQuiet self.old self.new) (desk_state self.old) (desk_state self.new) turn) }
         ensures err { OnErr result (IsNoted (desk_state self.old) (desk_state self.new)) }
         ensures counts { CountsDials (desk_state self.old).events (desk_state self.new).events (D.faults (desk_dialer self.old)) (D.faults (desk_dialer self.new)) }
         ensures tells { C.tells (desk_clock self.new) ≡ C.tells (desk_clock self.old) }
-        ensures holds { Holds self.new }
+        ensures holds { Holds C.given self.new }
     {
         note(&mut self.core, &mut self.clock)?;
         let want = self.core.wants();
@@ -156,7 +156,7 @@ where
 
     /// The journal, the dialer, the clock, and the connections in the order of their numbers, of which the last may stand. It takes no memory.
     pub fn into_parts(self) -> (Journal, D, C, Vec<Wire<D::I, D::O, Packet>>)
-        requires holds { Holds self }
+        requires holds { Holds C.given self }
         ensures journal { result.0.events ≡ (desk_state self).events }
         ensures dialer { result.1 ≡ desk_dialer self }
         ensures clock { result.2 ≡ desk_clock self }

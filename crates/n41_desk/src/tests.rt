@@ -1,7 +1,9 @@
 ghost use Rattle.std.specs.Prelude.{◌≡◌, ◌≤◌, [], length, IfOk};
+ghost use Rattle.n41_desk.specs.Desks.{Holds};
 
 use crate::{Desk, Turn};
 use n41_core::{Core, Ticket};
+use n41_link::{Clock, Dialer};
 use n41_mem::{MemClock, MemDialer, MemInflow, MemOutflow};
 use n41_model::Setup;
 use n41_types::{Answer, Bytes, Command, NoMemory, Sequence, Value};
@@ -59,7 +61,9 @@ fn link(alloc: Global, replies: usize) -> Result<(MemInflow, MemOutflow), NoMemo
 }
 
 // A desk whose dialer makes no connection, or one.
-fn desk(alloc: Global, replies: Option<usize>) -> Result<Look, NoMemory> {
+fn desk(alloc: Global, replies: Option<usize>) -> Result<Look, NoMemory>
+    ensures { IfOk result (λ d. Holds ⟦<MemClock as Clock>⟧.given d) }
+{
     let mut links = Vec::new(alloc);
     if let Some(replies) = replies {
         links.push(link(alloc, replies)?)?;
@@ -72,13 +76,29 @@ fn desk(alloc: Global, replies: Option<usize>) -> Result<Look, NoMemory> {
     ))
 }
 
-fn post_root(alloc: Global, desk: &mut Look) -> Option<Ticket> {
+fn post_root<D: Dialer, C: Clock>(alloc: Global, desk: &mut Desk<D, C>) -> Option<Ticket>
+where
+    D::I: Drop,
+    D::O: Drop,
+    requires { Holds C.given desk.old }
+    ensures { Holds C.given desk.new }
+{
     let command = root(alloc).ok()?;
     desk.post(0, command).ok()
 }
 
 // Takes at most so many turns, and says after how many nothing was wanted.
-fn turns_until_idle(alloc: Global, desk: &mut Look, most: u32) -> Option<u32> {
+fn turns_until_idle<D: Dialer, C: Clock>(
+    alloc: Global,
+    desk: &mut Desk<D, C>,
+    most: u32,
+) -> Option<u32>
+where
+    D::I: Drop,
+    D::O: Drop,
+    requires { Holds C.given desk.old }
+    ensures { Holds C.given desk.new }
+{
     for turns in 0..most {
         if desk.turn(alloc, "x:2049").ok()? == Turn::Idle {
             return Some(turns);
@@ -107,7 +127,9 @@ fn told(desk: &Look, ticket: Ticket) -> u64 {
 }
 
 fn run(alloc: Global, replies: Option<usize>) -> Option<End> {
-    let mut desk = desk(alloc, replies).ok()?;
+    let Ok(mut desk) = desk(alloc, replies) else {
+        return None;
+    };
     let ticket = post_root(alloc, &mut desk)?;
     desk.finish().ok()?;
     let turns = turns_until_idle(alloc, &mut desk, 40)?;
