@@ -1,16 +1,22 @@
-use Rattle.std.proofs.Common.{refl, inl}
-use Rattle.n41_desk.specs.Desks.{WasQuiet}
+use Rattle.std.proofs.Common.{◌≡◌, inl}
+use Rattle.std.specs.Prelude.{Result, Ok, Err, OnErr}
+use Rattle.n41_core.specs.State.{State}
 use Rattle.n41_desk.specs.Lines.{StaysQuiet}
+use Rattle.n41_desk.specs.Steps.{IsNoted}
 use Rattle.n41_desk.proofs.Acted.{counts_still}
 use Rattle.n41_desk.proofs.Lined.{counts_then}
 use Rattle.n41_desk.proofs.Held.{acted_owner, acted_given, noted_owner, noted_lines, noted_counts, noted_then, takes_turn}
 use Rattle.n41_desk.proofs.desk.Desk.turn.Goals as goal
 
+nothing_noted : {T E : Type 0} (r : Result T E) (old new : State) → new ≡ old → OnErr r (IsNoted old new)
+nothing_noted (Ok t) old new e = tt
+nothing_noted (Err x) old new e = inl e
+
 pub note-requires : goal.note-requires
 note-requires g c = c.requires.holds.all_given
 
 pub returns-in_err-note-clause-err : goal.returns-in_err-note-clause-err
-returns-in_err-note-clause-err g c = inl c.in_err-note.ensures.err
+returns-in_err-note-clause-err g c = nothing_noted c.from_residual.result c.args.self.now.core c.note.new.core c.in_err-note.ensures.err
 
 pub returns-in_err-note-clause-counts : goal.returns-in_err-note-clause-counts
 returns-in_err-note-clause-counts g c = counts_still c.args.self.now.core c.note.new.core _ c.in_err-note.ensures.err
