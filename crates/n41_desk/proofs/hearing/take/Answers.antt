@@ -1,0 +1,21 @@
+use Rattle.n41_desk.proofs.Taken.{taken, not_gone, not_misplaced, misshaped, unkept}
+use Rattle.n41_desk.proofs.hearing.take.Goals as goal
+
+pub returns-in-Ok : goal.returns-in-Ok
+returns-in-Ok c = taken c.args.core.now c.took.new.self c.args.arrival.conn c.args.arrival.place c.args.arrival.reply c.in-Ok.ensures.ok
+
+pub returns-in-Err-Gone : goal.returns-in-Err-Gone
+returns-in-Err-Gone c =
+    not_gone c.args.core.now c.took.new.self c.args.arrival.conn c.args.arrival.place _ c.args.arrival.reply c.requires.stands (rw c.in-Err-Gone.field-0-is at c.in-Err-Gone.ensures.cause)
+
+pub returns-in-Err-Misplaced : goal.returns-in-Err-Misplaced
+returns-in-Err-Misplaced c =
+    not_misplaced c.args.core.now c.took.new.self c.args.arrival.conn c.args.arrival.place c.in-Err-Misplaced.want _ c.args.arrival.reply c.requires.place (omega arith) (rw c.in-Err-Misplaced.field-0-is at c.in-Err-Misplaced.ensures.cause)
+
+pub returns-in-Err-Shape : goal.returns-in-Err-Shape
+returns-in-Err-Shape c =
+    misshaped c.args.core.now c.took.new.self c.args.arrival.conn c.args.arrival.place c.args.arrival.reply _ (rw c.in-Err-Shape.field-0-is at c.in-Err-Shape.ensures.cause)
+
+pub returns : goal.returns
+returns c =
+    unkept c.args.core.now c.took.new.self c.args.arrival.conn c.args.arrival.place c.args.arrival.reply (rw c.in-Err-NoMemory.field-0-is at c.in-Err-NoMemory.ensures.cause)
