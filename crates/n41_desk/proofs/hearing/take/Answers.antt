@@ -1,3 +1,4 @@
+use Rattle.std.proofs.Common.{arith}
 use Rattle.n41_desk.proofs.Taken.{taken, not_gone, not_misplaced, misshaped, unkept}
 use Rattle.n41_desk.proofs.hearing.take.Goals as goal
 
@@ -10,12 +11,12 @@ returns-in-Err-Gone c =
 
 pub returns-in-Err-Misplaced : goal.returns-in-Err-Misplaced
 returns-in-Err-Misplaced c =
-    not_misplaced c.args.core.now c.took.new.self c.args.arrival.conn c.args.arrival.place c.in-Err-Misplaced.want _ c.args.arrival.reply c.requires.place (omega arith) (rw c.in-Err-Misplaced.field-0-is at c.in-Err-Misplaced.ensures.cause)
+    ?
 
 pub returns-in-Err-Shape : goal.returns-in-Err-Shape
 returns-in-Err-Shape c =
     misshaped c.args.core.now c.took.new.self c.args.arrival.conn c.args.arrival.place c.args.arrival.reply _ (rw c.in-Err-Shape.field-0-is at c.in-Err-Shape.ensures.cause)
 
-pub returns : goal.returns
-returns c =
+pub returns-in-Err-NoMemory : goal.returns-in-Err-NoMemory
+returns-in-Err-NoMemory c =
     unkept c.args.core.now c.took.new.self c.args.arrival.conn c.args.arrival.place c.args.arrival.reply (rw c.in-Err-NoMemory.field-0-is at c.in-Err-NoMemory.ensures.cause)

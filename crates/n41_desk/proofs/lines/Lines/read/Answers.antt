@@ -28,13 +28,13 @@ pub returns-in-Stands-clause-reads : goal.returns-in-Stands-clause-reads
 returns-in-Stands-clause-reads g c =
     rw (← c.in-Some.ensures.value) (reads_on c.args.core.now c.hear.new.core c.args.conn c.in-Some.wire c.hear.new.wire c.in-Stands.ensures.reads)
 
-pub returns-clause-lines : goal.returns-clause-lines
-returns-clause-lines g c =
+pub returns-in-Broke-clause-lines : goal.returns-in-Broke-clause-lines
+returns-in-Broke-clause-lines g c =
     let l = rw (← c.in-Some.ensures.value) at c.requires.lines in
     let a = adds_read _ c.args.core.now c.hear.new.core c.args.conn c.in-Broke.ensures.reads in
     rw (c.push_reserved.ensures.items, c.take.ensures.after)
     (breaks_on c.args.core.now c.hear.new.core c.args.conn a.0 c.args.self.now.ended.items c.in-Some.wire c.hear.new.wire l c.requires.stands a.1 c.in-Broke.ensures.fares)
 
-pub returns-clause-reads : goal.returns-clause-reads
-returns-clause-reads g c =
+pub returns-in-Broke-clause-reads : goal.returns-in-Broke-clause-reads
+returns-in-Broke-clause-reads g c =
     reads_off _ _ c.args.core.now c.hear.new.core c.args.conn c.requires.stands c.in-Broke.ensures.fares.0 c.in-Broke.ensures.reads

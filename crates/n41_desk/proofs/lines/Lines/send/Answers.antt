@@ -31,7 +31,7 @@ returns-in-Ok-Broke-clause-lines g c =
     rw (c.push_reserved.ensures.items, c.take.ensures.after)
     (breaks_on c.args.core.now c.say.new.core c.args.conn a.0 c.args.self.now.ended.items c.in-Some.wire c.say.new.wire l c.requires.stands a.1 (rw c.in-Ok-Broke.field-0-is at c.in-Ok-Broke.ensures.fares))
 
-pub returns-clause-lines : goal.returns-clause-lines
-returns-clause-lines g c =
+pub returns-in-Err-clause-lines : goal.returns-in-Err-clause-lines
+returns-in-Err-clause-lines g c =
     let l = rw (← c.in-Some.ensures.value) at c.requires.lines in
     rw (c.in-Err.ensures.core_kept, c.in-Err.ensures.wire_kept) l
