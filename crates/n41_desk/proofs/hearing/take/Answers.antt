@@ -12,8 +12,8 @@ returns-in-Err-Gone c =
 pub returns-in-Err-Misplaced : goal.returns-in-Err-Misplaced
 returns-in-Err-Misplaced c =
     let t = rw (c.in-Err-Misplaced.is, c.in-Err-Misplaced.field-0-is) at c.took.type_inv in
-    let fits : c.in-Err-Misplaced.want < 2 ^ 64 = t.1.1.1.1.0.1.1.1.1.0.1 in
-    not_misplaced c.args.core.now c.took.new.self c.args.arrival.conn c.args.arrival.place c.in-Err-Misplaced.want _ c.args.arrival.reply c.requires.place fits (rw c.in-Err-Misplaced.field-0-is at c.in-Err-Misplaced.ensures.cause)
+    let fits : c.in-Err-Misplaced.field-0-0 < 2 ^ 64 = t.1.1.1.1.0.1.1.1.1.0.1 in
+    not_misplaced c.args.core.now c.took.new.self c.args.arrival.conn c.args.arrival.place c.in-Err-Misplaced.field-0-0 _ c.args.arrival.reply c.requires.place fits (rw c.in-Err-Misplaced.field-0-is at c.in-Err-Misplaced.ensures.cause)
 
 pub returns-in-Err-Shape : goal.returns-in-Err-Shape
 returns-in-Err-Shape c =
