@@ -1,5 +1,5 @@
 -- What a turn leaves of all connections.
-use Rattle.std.proofs.Common.{◌≡◌, ◌≢◌, ◌<◌, ◌≤◌, ◌+◌, ◌-◌, ◌^◌, min, ℕ, suc, true, false, List, [], ◌∷◌, ◌++◌, length, Option, Some, None, inl, inr, ◌⊎◌, refl, sym, ◌∙◌, ap, subst, arith, length-append}
+use Rattle.std.proofs.Common.{◌≡◌, ◌≢◌, ◌<◌, ◌≤◌, ◌+◌, ◌-◌, ◌^◌, ℕ, suc, true, List, [], ◌∷◌, ◌++◌, length, Option, Some, None, inl, inr, ◌⊎◌, refl, sym, ◌∙◌, ap, subst, arith, length-append}
 use Rattle.std.proofs.lemmas.Bool.{cases_lt}
 use Rattle.n41_link.specs.Counts.{Counts, Rose}
 use Rattle.n41_link.specs.declared.connection.Inflow.{Ghosts as InGhosts}
@@ -12,16 +12,15 @@ use Rattle.n41_journal.specs.declared.events.Event.TheVariants.{Dialed, DialFail
 use Rattle.n41_model.specs.declared.words.Setup.{Setup}
 use Rattle.n41_model.specs.Kept.{Kept}
 use Rattle.n41_model.specs.Requests.{standing, dials}
-use Rattle.n41_core.specs.State.{State, appends}
+use Rattle.n41_core.specs.State.{State}
 use Rattle.n41_wire.specs.Ends.{inlet_inflow}
+use Rattle.n41_wire.specs.Logs.{StandFirst}
 use Rattle.n41_wire.specs.declared.wire.Wire.{Wire}
-use Rattle.n41_desk.specs.Journals.{put_on, taken_on, failures, moments}
+use Rattle.n41_desk.specs.Journals.{failures}
 use Rattle.n41_desk.specs.Lines.{HasLines, StaysQuiet}
 use Rattle.n41_desk.specs.Moments.{CountsDials}
 use Rattle.n41_desk.specs.Steps.{Adds, Reads}
-use Rattle.n41_desk.specs.Wires.{written, IsNew, Carries, Ended, Fares, AreEnded}
-use Rattle.n41_desk.specs.declared.breaking.Fate.{Fate}
-use Rattle.n41_desk.specs.declared.breaking.Fate.TheVariants as fate
+use Rattle.n41_desk.specs.Wires.{written, IsNew, Carries, Ended, AreEnded}
 use Rattle.n41_desk.proofs.Events.{AreOther, on_other, left, none_put_next, none_taken_next}
 use Rattle.n41_desk.proofs.Fates.{all_after, all_more}
 
@@ -74,6 +73,15 @@ reads_on old new c w v (inr x) = inr x
 pub reads_off : (q r : Type 0) (old new : State) (c : ℕ) → standing old.events ≡ Some c → standing new.events ≡ None → Reads q old new c → Reads r old new c
 reads_off q r old new c s n (inl (z, e)) = absurd (not_standing c (sym n ∙ ap (λ (x : State). standing x.events) e ∙ s))
 reads_off q r old new c s n (inr x) = inr x
+
+-- ---- a connection that was made
+
+nothing_first : StandFirst [] []
+nothing_first = ([], [], record { front = []; whole = refl; records = refl }, refl)
+
+-- nothing was read, and nothing was handed out
+pub unheard_first : (log : List ℕ) (replies : List Reply) → log ≡ [] → replies ≡ [] → StandFirst log replies
+unheard_first log replies e f = subst (λ (xs : List ℕ). StandFirst xs replies) (sym e) (subst (λ (ys : List Reply). StandFirst [] ys) (sym f) nothing_first)
 
 -- ---- dials
 
