@@ -14,6 +14,7 @@ use Rattle.n41_model.specs.Kept.{Kept}
 use Rattle.n41_model.specs.Requests.{standing, dials}
 use Rattle.n41_core.specs.State.{State, appends}
 use Rattle.n41_wire.specs.Ends.{inlet_inflow}
+use Rattle.n41_wire.specs.Logs.{StandFirst}
 use Rattle.n41_wire.specs.declared.wire.Wire.{Wire}
 use Rattle.n41_desk.specs.Journals.{put_on, taken_on, failures, moments}
 use Rattle.n41_desk.specs.Lines.{HasLines, StaysQuiet}
@@ -74,6 +75,15 @@ reads_on old new c w v (inr x) = inr x
 pub reads_off : (q r : Type 0) (old new : State) (c : ℕ) → standing old.events ≡ Some c → standing new.events ≡ None → Reads q old new c → Reads r old new c
 reads_off q r old new c s n (inl (z, e)) = absurd (not_standing c (sym n ∙ ap (λ (x : State). standing x.events) e ∙ s))
 reads_off q r old new c s n (inr x) = inr x
+
+-- ---- a connection that was made
+
+nothing_first : StandFirst [] []
+nothing_first = ([], [], record { front = []; whole = refl; records = refl }, refl)
+
+-- nothing was read, and nothing was handed out
+pub unheard_first : (log : List ℕ) (replies : List Reply) → log ≡ [] → replies ≡ [] → StandFirst log replies
+unheard_first log replies e f = subst (λ (xs : List ℕ). StandFirst xs replies) (sym e) (subst (λ (ys : List Reply). StandFirst [] ys) (sym f) nothing_first)
 
 -- ---- dials
 

@@ -1,5 +1,6 @@
 -- What a turn on the connection that stands comes to.
-use Rattle.std.proofs.Common.{◌≡◌, ◌<◌, ◌≤◌, ◌+◌, ◌-◌, ◌^◌, min, ℕ, suc, true, List, [], ◌∷◌, ◌++◌, length, take, drop, Option, Some, None, Result, Ok, Err, inl, inr, ◌⊎◌, refl, sym, ◌∙◌, ap, subst, arith, append_assoc}
+use Rattle.std.proofs.Common.{◌≡◌, ◌≢◌, ◌<◌, ◌≤◌, ◌+◌, ◌-◌, ◌^◌, min, ℕ, suc, true, false, List, [], ◌∷◌, ◌++◌, length, take, drop, Option, Some, None, Result, Ok, Err, inl, inr, ◌⊎◌, refl, sym, ◌∙◌, ap, subst, arith, append_assoc}
+use Rattle.std.specs.Prelude.{IsSome}
 use Rattle.std.proofs.lemmas.List.{take-append-drop}
 use Rattle.std.proofs.lemmas.List.{append-nil}
 use Rattle.n41_record.specs.Fragments.{fragment}
@@ -18,6 +19,7 @@ use Rattle.n41_journal.specs.declared.events.Event.{Event}
 use Rattle.n41_journal.specs.declared.events.Event.TheVariants.{Put, Took, Dialed, DialFailed, Broke}
 use Rattle.n41_model.specs.declared.words.Item.{Item}
 use Rattle.n41_model.specs.declared.words.Setup.{Setup}
+use Rattle.n41_model.specs.Due.{due, NothingDue}
 use Rattle.n41_model.specs.Kept.{Kept, IsOld}
 use Rattle.n41_model.specs.Requests.{standing, dials, takes}
 use Rattle.n41_requests.specs.Requests.{spelled}
@@ -140,6 +142,15 @@ adds_sent old new c s = by_then s.then_is where
   )
 
 -- ---- saying
+
+none_due : (o : Option Request) → IsSome o → o ≡ None → ⊥
+none_due None s e = let h : false ≡ true = s in cc
+none_due (Some r) s e = let h : Some r ≡ None = e in cc
+
+-- where something is due on the connection that stands, something is put
+pub put_something : (u : Setup) (js : List Event) (c : ℕ) → standing js ≡ Some c → ((i : Item) × IsSome (due u js i)) → (standing js ≢ Some c) ⊎ NothingDue u js → ⊥
+put_something u js c s w (inl h) = h s
+put_something u js c s w (inr h) = none_due (due u js w.0) w.1 (h w.0)
 
 pub says_on : {I O P : Type 0} {g : InGhosts I} {h : OutGhosts O} {k : ParcelGhosts P} (c : ℕ) (w : Wire I O P g h k) (o : Outlet O P h k) → IsOf w c → KnownAs (h.put (outlet_outflow o)) (outlet_log o) → IsOf (record w { outlet = o }) c
 says_on c w o is known = record { number = is.number; places = is.places; read_told = is.read_told; written_told = known; read_first = is.read_first }

@@ -45,10 +45,7 @@ fn take(core: &mut Core, arrival: Arrival) -> Fate
     match core.took(arrival) {
         Ok(()) => Fate::Stands,
         Err(TookFault::Gone(_)) => Fate::Broke,
-        Err(TookFault::Misplaced { want, have: _ }) => {
-            let _want = want;
-            Fate::Broke
-        }
+        Err(TookFault::Misplaced { .. }) => Fate::Broke,
         Err(TookFault::Shape(_)) => Fate::Broke,
         Err(TookFault::NoMemory) => Fate::Broke,
     }

@@ -1,7 +1,7 @@
 use Rattle.std.proofs.Common.{◌≡◌, ◌≤◌, ℕ, length, subst, sym, arith}
 use Rattle.n41_types.specs.declared.plans.Request.{Request}
 use Rattle.n41_requests.specs.Requests.{IsSpellable, Fits, spelled}
-use Rattle.n41_desk.proofs.Linked.{says, sends}
+use Rattle.n41_desk.proofs.Linked.{says, sends, put_something}
 use Rattle.n41_desk.proofs.Small.{due_short}
 use Rattle.n41_desk.proofs.saying.say.Goals as goal
 
@@ -17,6 +17,16 @@ tell-sent-requires-clause-short g c =
     let s = due_short c.args.core.now.setup c.args.core.now.events h.0 c.in-Some.packet.request c.requires.owner c.kept.ensures h.1.due in
     let l : length (spelled c.in-Some.packet.request) ≤ 2000 = c.small_requests.ensures c.in-Some.packet.request s.0 (subst (λ (q : Request). Fits q) c.request.ensures c.request_fits.ensures) in
     omega (arith, l)
+
+pub returns-in_default-clause-fares : goal.returns-in_default-clause-fares
+returns-in_default-clause-fares g c =
+    let h = rw c.in_default.is at c.in_ok-packet.ensures.none in
+    absurd (put_something c.args.core.now.setup c.args.core.now.events c.args.conn c.requires.carries.stands c.requires.wanted h.1)
+
+pub returns-in_default-clause-sends : goal.returns-in_default-clause-sends
+returns-in_default-clause-sends g c =
+    let h = rw c.in_default.is at c.in_ok-packet.ensures.none in
+    absurd (put_something c.args.core.now.setup c.args.core.now.events c.args.conn c.requires.carries.stands c.requires.wanted h.1)
 
 pub returns-clause-fares : goal.returns-clause-fares
 returns-clause-fares g c =
