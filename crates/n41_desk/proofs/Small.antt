@@ -1,6 +1,6 @@
 -- Each request that is due is small and has a spelling.
-use Rattle.std.proofs.Common.{◌≡◌, ◌≤◌, ℕ, Bool, true, false, not, List, [], ◌∷◌, length, Option, Some, None, if◌then◌else◌, subst}
-use Rattle.std.specs.Prelude.{is_some}
+use Rattle.std.proofs.Common.{◌≡◌, ◌≤◌, ℕ, ◌==◌, ◌&&◌, Bool, true, false, not, List, [], ◌∷◌, length, filter, Option, Some, None, if◌then◌else◌, subst}
+use Rattle.std.specs.Prelude.{is_some, IfOk, IfSome}
 use Rattle.n41_types.specs.declared.commands.Command.{Command}
 use Rattle.n41_types.specs.declared.commands.Command.TheVariants as asks
 use Rattle.n41_types.specs.declared.plans.Plan.{Plan}
@@ -20,7 +20,7 @@ use Rattle.n41_model.specs.Kept.{Kept}
 use Rattle.n41_model.specs.Replies.{is_final}
 use Rattle.n41_model.specs.Requests.{bares, outs, first, joined, without, knows, has_xid, is_bare, is_on, made, bare_waits, bare, out}
 use Rattle.n41_model.specs.Sessions.{session, client, phase, completed, next_xid, free_slot}
-use Rattle.n41_requests.specs.Requests.{IsSpellablePlan, IsSmall}
+use Rattle.n41_requests.specs.Requests.{IsSpellable, IsSpellablePlan, IsSmall}
 
 -- a plan whose requests are small and have a spelling
 abbrev pub IsShortPlan : Plan → Type 0
@@ -76,6 +76,10 @@ phase_is u js Binding l = bind_is (session js)
 phase_is u js Session l = create_is (client js)
 phase_is u js ClientId l = (tt, l)
 phase_is u js p l = tt
+
+own_either : (b : Bool) (p q : Plan) → IsShortPlan p → IsShortPlan q → IsShortPlan (if b then p else q)
+own_either true p q g h = g
+own_either false p q g h = h
 
 own_is : (p : Phase) (done : Bool) → SomePlan (own_plan_in p done)
 own_is Completing true = (tt, tt)

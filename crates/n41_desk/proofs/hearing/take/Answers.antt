@@ -1,4 +1,4 @@
-use Rattle.std.proofs.Common.{◌<◌, ◌^◌, arith}
+use Rattle.std.proofs.Common.{◌<◌, ◌^◌}
 use Rattle.n41_desk.proofs.Taken.{taken, not_gone, not_misplaced, misshaped, unkept}
 use Rattle.n41_desk.proofs.hearing.take.Goals as goal
 
@@ -12,7 +12,7 @@ returns-in-Err-Gone c =
 pub returns-in-Err-Misplaced : goal.returns-in-Err-Misplaced
 returns-in-Err-Misplaced c =
     let t = rw (c.in-Err-Misplaced.is, c.in-Err-Misplaced.field-0-is) at c.took.type_inv in
-    let fits : c.in-Err-Misplaced.field-0-0 < 2 ^ 64 = omega (arith, t) in
+    let fits : c.in-Err-Misplaced.field-0-0 < 2 ^ 64 = t.1.1.1.1.0.1.1.1.1.0.1 in
     not_misplaced c.args.core.now c.took.new.self c.args.arrival.conn c.args.arrival.place c.in-Err-Misplaced.field-0-0 _ c.args.arrival.reply c.requires.place fits (rw c.in-Err-Misplaced.field-0-is at c.in-Err-Misplaced.ensures.cause)
 
 pub returns-in-Err-Shape : goal.returns-in-Err-Shape

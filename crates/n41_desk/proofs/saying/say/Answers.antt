@@ -1,4 +1,4 @@
-use Rattle.std.proofs.Common.{◌≤◌, length, subst, sym, arith}
+use Rattle.std.proofs.Common.{◌≡◌, ◌≤◌, ℕ, length, subst, sym, arith}
 use Rattle.n41_types.specs.declared.plans.Request.{Request}
 use Rattle.n41_requests.specs.Requests.{IsSpellable, Fits, spelled}
 use Rattle.n41_desk.proofs.Linked.{says, sends, put_something}
