@@ -1,15 +1,13 @@
 -- A script that is run against a server: what was read, done and printed. (own)
-use Rattle.std.specs.Prelude.{◌≡◌, ◌≤◌, ◌<◌, ◌⊎◌, ℕ, Bool, true, false, List, [], ◌∷◌, length, max, nat_le, if◌then◌else◌, Result, Ok, Err, Some, None}
+use Rattle.std.specs.Prelude.{◌≡◌, ◌≤◌, ◌<◌, ◌⊎◌, ◌++◌, ℕ, Bool, true, false, List, [], length, max, nat_le, if◌then◌else◌, Result, Ok, Err, Some, None}
 use Rattle.std.specs.declared.option.Option.{Option}
 use Rattle.std.specs.Io.KnownBytes.{append_known}
 use Rattle.n41_xdr.specs.Spelling.{hyper}
-use Rattle.n41_link.specs.declared.connection.Inflow.{Ghosts as InGhosts}
-use Rattle.n41_link.specs.declared.connection.Outflow.{Ghosts as OutGhosts}
-use Rattle.n41_results.specs.declared.messages.Parcel.{Ghosts as ParcelGhosts}
 use Rattle.n41_journal.specs.declared.events.Event.{Event}
 use Rattle.n41_model.specs.declared.words.Setup.{Setup}
 use Rattle.n41_model.specs.Answers.{breach_at, round_limit}
 use Rattle.n41_model.specs.Kept.{Kept}
+use Rattle.n41_model.specs.OneOut.{OneOut}
 use Rattle.n41_model.specs.Requests.{rounds}
 use Rattle.n41_model.specs.Text.{text}
 use Rattle.n41_core.specs.Settled.{IsSettled}
@@ -17,12 +15,13 @@ use Rattle.n41_script.specs.Scripts.{IsScript, IsFault, script_limit}
 use Rattle.n41_script.specs.declared.script.Script.{Script}
 use Rattle.n41_script.specs.declared.fault.LineKind.{LineKind}
 use Rattle.n41_script.specs.declared.fault.LineKind.TheVariants.{Limit}
-use Rattle.n41_script.specs.declared.fault.ScriptFault.TheVariants.{Line}
+use Rattle.n41_script.specs.declared.fault.ScriptFault.{ScriptFault}
+use Rattle.n41_script.specs.declared.fault.ScriptFault.TheVariants as refused
 use Rattle.n41_report.specs.Text.{script_lines}
+use Rattle.n41_streams.specs.declared.reading.ReadFault.{ReadFault}
+use Rattle.n41_streams.specs.declared.reading.ReadFault.TheVariants as unread
 use Rattle.n41_streams.specs.Streams.{IsRead, IsTooLong, TookPart}
-use Rattle.n41_desk.specs.Journals.{moments}
-use Rattle.n41_desk.specs.Moments.{AreGiven}
-use Rattle.n41_drive.specs.Drives.{Driven, Begins}
+use Rattle.n41_drive.specs.Drives.{Driven}
 use Rattle.n41_perform.specs.declared.fault.PerformFault.{PerformFault}
 use Rattle.n41_perform.specs.declared.fault.PerformFault.TheVariants as fault
 
@@ -47,13 +46,28 @@ pub record ReadScript (old new : Option (List ℕ)) (s : Script) : Type 0 where
 -- the source was read to its end, and this is the fault of what it gave; or it is longer than a script may be
 abbrev pub RefusedSource : Option (List ℕ) → Option (List ℕ) → ℕ → LineKind → Type 0
 RefusedSource old new line kind =
-    ((bytes : List ℕ) × IsRead script_limit old new bytes × IsFault bytes (Line line kind))
+    ((bytes : List ℕ) × IsRead script_limit old new bytes × IsFault bytes (refused.Line line kind))
     ⊎ (IsTooLong script_limit old new × (line ≡ 0) × (kind ≡ Limit))
 
 -- the journal of a client that keeps its rules, at whose end nothing is owed
 pub record IsWhole (u : Setup) (js : List Event) : Type 0 where
   pub kept : Kept u js
   pub settled : IsSettled u.callers js
+
+-- at every moment of the run: on each slot at most one request was out, and at most one without a slot; what went again was the same request
+abbrev pub AlwaysOneOut : List Event → Type 0
+AlwaysOneOut js = (later before : List Event) → js ≡ later ++ before → OneOut before
+
+-- what the fault of a source is to the whole
+abbrev pub of_source : ReadFault → PerformFault
+of_source unread.TooLong = fault.Script 0 Limit
+of_source unread.Failed = fault.ReadFault
+of_source unread.NoMemory = fault.NoMemory
+
+-- what the fault of a text is to the whole
+abbrev pub of_script : ScriptFault → PerformFault
+of_script (refused.Line line kind) = fault.Script line kind
+of_script refused.NoMemory = fault.NoMemory
 
 -- why no script was read: the source gave none, it failed, or memory was wanting
 abbrev pub ReadFails : PerformFault → Option (List ℕ) → Option (List ℕ) → Type 0

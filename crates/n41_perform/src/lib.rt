@@ -7,8 +7,6 @@ mod performing;
 mod printing;
 mod reading;
 mod running;
-#[cfg(test)]
-mod tests;
 
 pub use fault::PerformFault;
 pub use performing::{Performed, perform};

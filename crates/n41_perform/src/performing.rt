@@ -1,12 +1,13 @@
 // The call.
-ghost use Rattle.std.specs.Prelude.{◌≡◌, ◌≤◌, [], length, Some};
+ghost use Rattle.std.specs.Prelude.{◌≡◌, ◌≤◌, ℕ, Bool, [], length, Some};
 ghost use Rattle.n41_link.specs.Counts.{Counts};
 ghost use Rattle.n41_model.specs.declared.words.Setup.{Setup as SetupValue};
+ghost use Rattle.n41_model.specs.Answers.{breach_at};
 ghost use Rattle.n41_desk.specs.Journals.{moments};
 ghost use Rattle.n41_desk.specs.Lines.{AreWires};
 ghost use Rattle.n41_desk.specs.Moments.{AreGiven, CountsDials};
 ghost use Rattle.n41_drive.specs.Drives.{AreBuilt};
-ghost use Rattle.n41_perform.specs.Performs.{IsWhole, Outcome, Prints, is_read_fault, is_write_fault};
+ghost use Rattle.n41_perform.specs.Performs.{AlwaysOneOut, IsWhole, Outcome, Prints, RunsTo, is_read_fault, is_write_fault};
 
 use crate::PerformFault;
 use crate::printing::print;
@@ -15,6 +16,7 @@ use crate::running::{Ran, run_script};
 use n41_core::Packet;
 use n41_journal::Journal;
 use n41_link::{Clock, Dialer, Sink, Source};
+use n41_model::one_request_is_out;
 use n41_script::Script;
 use n41_wire::Wire;
 use std::alloc::Global;
@@ -57,30 +59,25 @@ where
     }
 }
 
-/// What a run leaves, with the fault of the whole.
-fn performed<D: Dialer, C: Clock>(ran: Ran<D, C>, fault: Option<PerformFault>) -> Performed<D, C>
-where
-    D::I: Drop,
-    D::O: Drop,
-    ensures fault { result.fault ≡ fault }
-    ensures journal { result.journal ≡ ran.journal }
-    ensures wires { result.wires ≡ ran.wires }
-    ensures dialer { result.dialer ≡ ran.dialer }
-    ensures clock { result.clock ≡ ran.clock }
+/// Prints the answers of a run, and gives the fault of the whole. Where memory was wanting for the run, nothing is printed.
+fn print_run<K: Sink>(
+    alloc: Global,
+    sink: &mut K,
+    journal: &Journal,
+    script: &Script,
+    breach: Option<u64>,
+    fault: Option<PerformFault>,
+) -> Option<PerformFault>
+    requires { breach ≡ breach_at journal.now.events }
+    ensures prints { (given : ℕ → Bool) → RunsTo fault given script.now journal.now.events → Prints result given script.now (K.taken sink.old) (K.taken sink.new) journal.now.events }
+    ensures writes { (given : ℕ → Bool) → RunsTo fault given script.now journal.now.events → Counts (K.faults sink.old) (K.faults sink.new) (is_write_fault result) }
 {
-    let Ran {
-        journal,
-        dialer,
-        clock,
-        wires,
-        ..
-    } = ran;
-    Performed {
-        fault,
-        journal,
-        dialer,
-        clock,
-        wires,
+    if let Some(PerformFault::NoMemory) = fault {
+        return fault;
+    }
+    match print(alloc, sink, journal, script, breach) {
+        Ok(()) => fault,
+        Err(other) => Some(other),
     }
 }
 
@@ -109,13 +106,20 @@ where
     ensures tells { C.tells result.clock ≡ C.tells clock }
 {
     let ran = run_script(rt, alloc, addr, script, dialer, clock);
-    let fault = ran.fault;
-    if let Some(PerformFault::NoMemory) = fault {
-        return performed(ran, fault);
-    }
-    match print(alloc, sink, &ran.journal, script, ran.breach) {
-        Ok(()) => performed(ran, fault),
-        Err(other) => performed(ran, Some(other)),
+    let fault = print_run(alloc, sink, &ran.journal, script, ran.breach, ran.fault);
+    let Ran {
+        journal,
+        dialer,
+        clock,
+        wires,
+        ..
+    } = ran;
+    Performed {
+        fault,
+        journal,
+        dialer,
+        clock,
+        wires,
     }
 }
 
@@ -136,11 +140,13 @@ where
     ensures wires { AreWires result.journal.events result.wires.items }
     ensures given { AreGiven (C.given result.clock) (moments result.journal.events) }
     ensures whole { (setup : SetupValue) × IsWhole setup result.journal.events }
+    ensures one_out { AlwaysOneOut result.journal.events }
     ensures dials { CountsDials [] result.journal.events (D.faults dialer) (D.faults result.dialer) }
     ensures reads { Counts (S.faults source.old) (S.faults source.new) (is_read_fault result.fault) }
     ensures writes { Counts (K.faults sink.old) (K.faults sink.new) (is_write_fault result.fault) }
     ensures tells { C.tells result.clock ≡ C.tells clock }
 {
+    one_request_is_out();
     match read(alloc, source) {
         Ok(script) => perform_script(rt, alloc, addr, &script, sink, dialer, clock),
         Err(fault) => untouched(alloc, fault, dialer, clock),

@@ -1,7 +1,7 @@
 // The run of a script that was read.
-ghost use Rattle.std.specs.Prelude.{◌≡◌, ◌≤◌, ◌<◌, [], length, Some, None};
+ghost use Rattle.std.specs.Prelude.{◌≡◌, ◌≤◌, ℕ, [], length, Some, None, OnOk, OnErr, IsTrue};
 ghost use Rattle.n41_model.specs.declared.words.Setup.{Setup as SetupValue};
-ghost use Rattle.n41_model.specs.Answers.{breach_at, round_limit};
+ghost use Rattle.n41_model.specs.Answers.{breach_at};
 ghost use Rattle.n41_model.specs.Requests.{rounds as silent_rounds};
 ghost use Rattle.n41_desk.specs.Desks.{desk_state, desk_dialer, desk_clock, Holds};
 ghost use Rattle.n41_desk.specs.Journals.{moments};
@@ -9,7 +9,7 @@ ghost use Rattle.n41_desk.specs.Lines.{AreWires};
 ghost use Rattle.n41_desk.specs.Moments.{AreGiven, CountsDials};
 ghost use Rattle.n41_drive.specs.Drives.{AreBuilt};
 ghost use Rattle.n41_perform.specs.declared.fault.PerformFault.{PerformFault as FaultValue};
-ghost use Rattle.n41_perform.specs.Performs.{IsWhole, RunsTo, ending};
+ghost use Rattle.n41_perform.specs.Performs.{IsClientOf, IsWhole, RunsTo, callers_of, ending};
 
 use crate::PerformFault;
 use crate::client::{callers_of, make_client};
@@ -19,6 +19,7 @@ use n41_drive::drive;
 use n41_journal::Journal;
 use n41_link::{Clock, Dialer};
 use n41_script::Script;
+use n41_types::NoMemory;
 use n41_wire::Wire;
 use std::alloc::Global;
 use std::sync::Wait;
@@ -77,7 +78,7 @@ fn taken_apart<D: Dialer, C: Clock>(fault: Option<PerformFault>, desk: Desk<D, C
 where
     D::I: Drop,
     D::O: Drop,
-    requires holds { Holds desk }
+    requires holds { Holds C.given desk }
     ensures fault { result.fault ≡ fault }
     ensures breach { result.breach ≡ breach_at result.journal.events }
     ensures journal { result.journal.events ≡ (desk_state desk).events }
@@ -97,6 +98,55 @@ where
         clock,
         wires,
     }
+}
+
+/// How the run of a desk ended, by whether memory was wanting.
+fn end_of<D: Dialer, C: Clock>(
+    driven: Result<(), NoMemory>,
+    desk: &Desk<D, C>,
+) -> Option<PerformFault>
+where
+    D::I: Drop,
+    D::O: Drop,
+    ensures ok { OnOk driven (result ≡ ending (breach_at (desk_state desk.now).events) (silent_rounds (desk_state desk.now).events)) }
+    ensures err { OnErr driven (result ≡ Some FaultValue.NoMemory) }
+{
+    match driven {
+        Ok(()) => ending(desk.breach(), desk.rounds()),
+        Err(_) => Some(PerformFault::NoMemory),
+    }
+}
+
+/// Runs a script with a client that has done nothing yet, until it has ended.
+fn run_client<R: Wait, D: Dialer, C: Clock>(
+    rt: &R,
+    alloc: Global,
+    addr: &str,
+    script: &Script,
+    core: Core,
+    dialer: D,
+    clock: C,
+) -> Ran<D, C>
+where
+    D::I: Drop,
+    D::O: Drop,
+    requires owner { length core.setup.owner ≤ 1024 }
+    requires all { core.setup.callers ≡ callers_of script.now }
+    requires new { core.events ≡ [] }
+    requires built { AreBuilt script.now.lines }
+    ensures runs { (moment : ℕ) → IsTrue (C.given clock moment) → IsClientOf script.now moment core.setup → RunsTo result.fault (C.given result.clock) script.now result.journal.events }
+    ensures breach { result.breach ≡ breach_at result.journal.events }
+    ensures wires { AreWires result.journal.events result.wires.items }
+    ensures given { AreGiven (C.given result.clock) (moments result.journal.events) }
+    ensures whole { IsWhole core.setup result.journal.events }
+    ensures dials { CountsDials [] result.journal.events (D.faults dialer) (D.faults result.dialer) }
+    ensures tells { C.tells result.clock ≡ C.tells clock }
+{
+    let callers = callers_of(script);
+    let mut desk = Desk::new(alloc, core, dialer, clock);
+    let driven = drive(rt, alloc, &mut desk, addr, callers, script.lines.as_slice());
+    let fault = end_of(driven, &desk);
+    taken_apart(fault, desk)
 }
 
 /// Runs a script with a new client, until it has ended.
@@ -126,12 +176,5 @@ where
     let Ok(core) = make_client(alloc, script, moment) else {
         return not_begun(alloc, dialer, clock);
     };
-    let callers = callers_of(script);
-    let mut desk = Desk::new(alloc, core, dialer, clock);
-    let driven = drive(rt, alloc, &mut desk, addr, callers, script.lines.as_slice());
-    let fault = match driven {
-        Ok(()) => ending(desk.breach(), desk.rounds()),
-        Err(_) => Some(PerformFault::NoMemory),
-    };
-    taken_apart(fault, desk)
+    run_client(rt, alloc, addr, script, core, dialer, clock)
 }

@@ -1,0 +1,80 @@
+-- The run of a script: how it ended, what a run that did not begin leaves, and what holds at each of its moments.
+use Rattle.std.proofs.Common.{◌≡◌, ℕ, ◌+◌, ◌≤◌, ◌<◌, Bool, true, false, IsTrue, List, [], ◌∷◌, ◌++◌, Option, Some, None, refl, sym, subst, inl, arith}
+use Rattle.std.proofs.lemmas.Bool.Decides.{nat_tests}
+use Rattle.std.specs.Prelude.{Result, Ok, Err, OnOk, OnErr, nat_le}
+use Rattle.n41_link.specs.declared.connection.Inflow.{Ghosts as InGhosts}
+use Rattle.n41_link.specs.declared.connection.Outflow.{Ghosts as OutGhosts}
+use Rattle.n41_results.specs.declared.messages.Parcel.{Ghosts as ParcelGhosts}
+use Rattle.n41_journal.specs.declared.events.Event.{Event}
+use Rattle.n41_model.specs.declared.words.Setup.{Setup}
+use Rattle.n41_model.specs.Answers.{breach_at, round_limit}
+use Rattle.n41_model.specs.Kept.{Kept}
+use Rattle.n41_model.specs.OneOut.{KeepsOneOut}
+use Rattle.n41_model.specs.Requests.{rounds}
+use Rattle.n41_script.specs.declared.script.Script.{Script}
+use Rattle.n41_script.specs.declared.script.ScriptLine.{ScriptLine}
+use Rattle.n41_wire.specs.declared.wire.Wire.{Wire}
+use Rattle.n41_desk.specs.Journals.{moments}
+use Rattle.n41_desk.specs.Lines.{AreWires}
+use Rattle.n41_desk.specs.Moments.{AreGiven, CountsDials}
+use Rattle.n41_drive.specs.Drives.{Driven}
+use Rattle.n41_perform.specs.declared.fault.PerformFault.{PerformFault}
+use Rattle.n41_perform.specs.declared.fault.PerformFault.TheVariants as fault
+use Rattle.n41_perform.specs.Performs.{IsClientOf, IsWhole, AlwaysOneOut, IsMade, Runs, RunsTo, ending}
+
+-- ---- a run that did not begin
+
+-- no one: the client of a run that did not begin
+nobody : Setup
+nobody = record { callers = 0; uid = 0; gid = 0; owner = []; verifier = [] }
+
+whole_at : (setup : Setup) × IsWhole setup []
+whole_at = (nobody, record { kept = tt; settled = λ c h. inl refl })
+
+pub whole_none : (js : List Event) → js ≡ [] → (setup : Setup) × IsWhole setup js
+whole_none js e = subst (λ (ks : List Event). (setup : Setup) × IsWhole setup ks) (sym e) whole_at
+
+pub given_none : (given : ℕ → Bool) (js : List Event) → js ≡ [] → AreGiven given (moments js)
+given_none given js e = subst (λ (ks : List Event). AreGiven given (moments ks)) (sym e) tt
+
+dials_at : (n : ℕ) → CountsDials [] [] n n
+dials_at n = record { later = omega arith; few = inl (omega arith) }
+
+pub dials_none : (js : List Event) (n m : ℕ) → js ≡ [] → m ≡ n → CountsDials [] js n m
+dials_none js n m e k = rw (e, k) (dials_at n)
+
+pub wires_none : {I O P : Type 0} {g : InGhosts I} {h : OutGhosts O} {k : ParcelGhosts P} (ws : List (Wire I O P g h k)) → ws ≡ [] → AreWires [] ws
+wires_none ws e = ([], None, record { broken = tt; last = (refl, refl) }, e)
+
+-- ---- how a run ended
+
+ends_by_rounds : (b : Bool) (given : ℕ → Bool) (s : Script) (js : List Event) (u : Setup) → nat_le round_limit (rounds js) ≡ b → IsMade given s u → IsWhole u js → Driven u.callers js s.lines → breach_at js ≡ None
+    → RunsTo (if b then Some (fault.Unreachable round_limit) else None) given s js
+ends_by_rounds true given s js u e m w d n =
+    let l : round_limit ≤ rounds js = grind (arith, nat_tests, e) in
+    record { setup = u; made = m; whole = w; driven = d; ends = (n, refl, l) }
+ends_by_rounds false given s js u e m w d n =
+    let l : rounds js < round_limit = grind (arith, nat_tests, e) in
+    record { setup = u; made = m; whole = w; driven = d; ends = (n, l) }
+
+ends : (b : Option ℕ) (given : ℕ → Bool) (s : Script) (js : List Event) (u : Setup) → breach_at js ≡ b → IsMade given s u → IsWhole u js → Driven u.callers js s.lines → RunsTo (ending b (rounds js)) given s js
+ends (Some p) given s js u e m w d = record { setup = u; made = m; whole = w; driven = d; ends = e }
+ends None given s js u e m w d = ends_by_rounds (nat_le round_limit (rounds js)) given s js u refl m w d e
+
+-- what was driven, where memory was enough
+pub driven_by : {T E : Type 0} (r : Result T E) (n m : ℕ) (js ks : List Event) (ls ms : List ScriptLine) → n ≡ m → js ≡ ks → ls ≡ ms → OnOk r (Driven n js ls) → OnOk r (Driven m ks ms)
+driven_by (Ok x) n m js ks ls ms e f g d = rw (sym e, sym f, sym g) d
+driven_by (Err x) n m js ks ls ms e f g d = tt
+
+pub runs_to : {T E : Type 0} (r : Result T E) (f : Option PerformFault) (given : ℕ → Bool) (s : Script) (js : List Event) (u : Setup) → IsMade given s u → IsWhole u js → OnOk r (Driven u.callers js s.lines) → OnOk r (f ≡ ending (breach_at js) (rounds js)) → OnErr r (f ≡ Some fault.NoMemory) → RunsTo f given s js
+runs_to (Ok x) f given s js u m w d e n = subst (λ (g : Option PerformFault). RunsTo g given s js) (sym e) (ends (breach_at js) given s js u refl m w d)
+runs_to (Err x) f given s js u m w d e n = subst (λ (g : Option PerformFault). RunsTo g given s js) (sym n) tt
+
+-- ---- at each moment of a run
+
+kept_before : (u : Setup) (later before : List Event) → Kept u (later ++ before) → Kept u before
+kept_before u [] before k = k
+kept_before u (e ∷ later) before k = kept_before u later before k.0
+
+pub always_one_out : (js : List Event) → KeepsOneOut → ((u : Setup) × IsWhole u js) → AlwaysOneOut js
+always_one_out js law w = λ later before e. law w.0 before (kept_before w.0 later before (subst (λ (ks : List Event). Kept w.0 ks) e w.1.kept))
