@@ -1,12 +1,11 @@
 -- What was read, done and printed, by the fault of the whole.
 use Rattle.std.proofs.Common.{◌≡◌, ℕ, Bool, true, false, List, [], Option, Some, None, refl, sym, subst, inl, arith}
-use Rattle.std.specs.Prelude.{Result, Ok, Err}
 use Rattle.n41_journal.specs.declared.events.Event.{Event}
 use Rattle.n41_link.specs.Counts.{Counts}
 use Rattle.n41_script.specs.declared.script.Script.{Script}
 use Rattle.n41_perform.specs.declared.fault.PerformFault.{PerformFault}
 use Rattle.n41_perform.specs.declared.fault.PerformFault.TheVariants as fault
-use Rattle.n41_perform.specs.Performs.{ReadScript, ReadFails, fails_to_read, Prints, IsUntouched, Outcome, is_read_fault, is_write_fault}
+use Rattle.n41_perform.specs.Performs.{ReadScript, ReadFails, Prints, IsUntouched, Outcome, is_read_fault, is_write_fault}
 use Rattle.n41_perform.proofs.Printings.{counts_none}
 
 -- ---- a script was read
@@ -20,7 +19,7 @@ outcome (Some (fault.Unreachable n)) given s left left_new taken taken_new js r 
 outcome (Some (fault.Breach b)) given s left left_new taken taken_new js r p = record { script = s; read = r; runs = p.0; printed = p.1 }
 outcome (Some fault.NoMemory) given s left left_new taken taken_new js r p = p
 
-reads_of : (f : Option PerformFault) (given : ℕ → Bool) (s : Script) (taken taken_new : Option (List ℕ)) (js : List Event) (before now : ℕ) → Prints f given s taken taken_new js → Counts before now false → Counts before now (is_read_fault f)
+pub reads_of : (f : Option PerformFault) (given : ℕ → Bool) (s : Script) (taken taken_new : Option (List ℕ)) (js : List Event) (before now : ℕ) → Prints f given s taken taken_new js → Counts before now false → Counts before now (is_read_fault f)
 reads_of None given s taken taken_new js before now p c = c
 reads_of (Some (fault.Script line kind)) given s taken taken_new js before now p c = c
 reads_of (Some fault.ReadFault) given s taken taken_new js before now p c = absurd p.0.ends
@@ -28,10 +27,6 @@ reads_of (Some fault.WriteFault) given s taken taken_new js before now p c = c
 reads_of (Some (fault.Unreachable n)) given s taken taken_new js before now p c = c
 reads_of (Some (fault.Breach b)) given s taken taken_new js before now p c = c
 reads_of (Some fault.NoMemory) given s taken taken_new js before now p c = c
-
-pub reads : (f : Option PerformFault) (given : ℕ → Bool) (s : Script) (taken taken_new : Option (List ℕ)) (js : List Event) (r : Result Script PerformFault) (before now : ℕ) → r ≡ Ok s → Prints f given s taken taken_new js → Counts before now (fails_to_read r) → Counts before now (is_read_fault f)
-reads f given s taken taken_new js r before now is p c =
-    reads_of f given s taken taken_new js before now p (subst (λ (x : Result Script PerformFault). Counts before now (fails_to_read x)) is c)
 
 -- ---- no script was read
 
@@ -45,19 +40,6 @@ untouched_at fault.NoMemory given left left_new taken h = refl
 
 pub untouched : (f : PerformFault) (g : Option PerformFault) (given : ℕ → Bool) (left left_new taken : Option (List ℕ)) (js : List Event) → g ≡ Some f → js ≡ [] → ReadFails f left left_new → Outcome g given left left_new taken taken js
 untouched f g given left left_new taken js e n h = rw (e, n) (untouched_at f given left left_new taken h)
-
-unread_reads_at : (f : PerformFault) (before now : ℕ) → Counts before now (fails_to_read {T = Script} (Err f)) → Counts before now (is_read_fault (Some f))
-unread_reads_at (fault.Script line kind) before now c = c
-unread_reads_at fault.ReadFault before now c = c
-unread_reads_at fault.WriteFault before now c = c
-unread_reads_at (fault.Unreachable n) before now c = c
-unread_reads_at (fault.Breach p) before now c = c
-unread_reads_at fault.NoMemory before now c = c
-
-pub unread_reads : (f : PerformFault) (g : Option PerformFault) (r : Result Script PerformFault) (before now : ℕ) → g ≡ Some f → r ≡ Err f → Counts before now (fails_to_read r) → Counts before now (is_read_fault g)
-unread_reads f g r before now e is c =
-    subst (λ (x : Option PerformFault). Counts before now (is_read_fault x)) (sym e)
-    (unread_reads_at f before now (subst (λ (x : Result Script PerformFault). Counts before now (fails_to_read x)) is c))
 
 unread_writes_at : (f : PerformFault) (left left_new : Option (List ℕ)) (n : ℕ) → ReadFails f left left_new → Counts n n (is_write_fault (Some f))
 unread_writes_at (fault.Script line kind) left left_new n h = counts_none n

@@ -1,5 +1,5 @@
 -- The run of a script: how it ended, what a run that did not begin leaves, and what holds at each of its moments.
-use Rattle.std.proofs.Common.{◌≡◌, ℕ, ◌+◌, ◌≤◌, ◌<◌, Bool, true, false, IsTrue, List, [], ◌∷◌, ◌++◌, Option, Some, None, refl, sym, subst, inl, arith}
+use Rattle.std.proofs.Common.{◌≡◌, ℕ, ◌+◌, ◌≤◌, ◌<◌, Bool, true, false, IsTrue, List, [], ◌∷◌, ◌++◌, Option, Some, None, if◌then◌else◌, refl, sym, ◌∙◌, subst, inl, arith}
 use Rattle.std.proofs.lemmas.Bool.Decides.{nat_tests}
 use Rattle.std.specs.Prelude.{Result, Ok, Err, OnOk, OnErr, nat_le}
 use Rattle.n41_link.specs.declared.connection.Inflow.{Ghosts as InGhosts}
@@ -20,7 +20,7 @@ use Rattle.n41_desk.specs.Moments.{AreGiven, CountsDials}
 use Rattle.n41_drive.specs.Drives.{Driven}
 use Rattle.n41_perform.specs.declared.fault.PerformFault.{PerformFault}
 use Rattle.n41_perform.specs.declared.fault.PerformFault.TheVariants as fault
-use Rattle.n41_perform.specs.Performs.{IsClientOf, IsWhole, AlwaysOneOut, IsMade, Runs, RunsTo, ending}
+use Rattle.n41_perform.specs.Performs.{IsClientOf, IsWhole, AlwaysOneOut, IsMade, RunsTo, callers_of, ending}
 
 -- ---- a run that did not begin
 
@@ -61,14 +61,16 @@ ends : (b : Option ℕ) (given : ℕ → Bool) (s : Script) (js : List Event) (u
 ends (Some p) given s js u e m w d = record { setup = u; made = m; whole = w; driven = d; ends = e }
 ends None given s js u e m w d = ends_by_rounds (nat_le round_limit (rounds js)) given s js u refl m w d e
 
--- what was driven, where memory was enough
-pub driven_by : {T E : Type 0} (r : Result T E) (n m : ℕ) (js ks : List Event) (ls ms : List ScriptLine) → n ≡ m → js ≡ ks → ls ≡ ms → OnOk r (Driven n js ls) → OnOk r (Driven m ks ms)
-driven_by (Ok x) n m js ks ls ms e f g d = rw (sym e, sym f, sym g) d
-driven_by (Err x) n m js ks ls ms e f g d = tt
-
-pub runs_to : {T E : Type 0} (r : Result T E) (f : Option PerformFault) (given : ℕ → Bool) (s : Script) (js : List Event) (u : Setup) → IsMade given s u → IsWhole u js → OnOk r (Driven u.callers js s.lines) → OnOk r (f ≡ ending (breach_at js) (rounds js)) → OnErr r (f ≡ Some fault.NoMemory) → RunsTo f given s js
-runs_to (Ok x) f given s js u m w d e n = subst (λ (g : Option PerformFault). RunsTo g given s js) (sym e) (ends (breach_at js) given s js u refl m w d)
-runs_to (Err x) f given s js u m w d e n = subst (λ (g : Option PerformFault). RunsTo g given s js) (sym n) tt
+-- the run of a client that was made at a moment which its clock gave
+pub client_runs : {T E : Type 0} (r : Result T E) (f h : Option PerformFault) (given : ℕ → Bool) (s : Script) (js ks : List Event) (u v : Setup) (n : ℕ) (ls : List ScriptLine) (moment : ℕ)
+    → f ≡ h → js ≡ ks → v ≡ u → n ≡ callers_of s → ls ≡ s.lines → given moment ≡ true → IsClientOf s moment u → IsWhole v js
+    → OnOk r (Driven n ks ls) → OnOk r (h ≡ ending (breach_at ks) (rounds ks)) → OnErr r (h ≡ Some fault.NoMemory) → RunsTo f given s js
+client_runs (Ok x) f h given s js ks u v n ls moment ef ej ev en el i m w d e k =
+    let whole : IsWhole u ks = subst (λ (t : Setup). IsWhole t ks) ev (subst (λ (xs : List Event). IsWhole v xs) ej w) in
+    let driven : Driven u.callers ks s.lines = subst (λ (c : ℕ). Driven c ks s.lines) (en ∙ sym m.callers) (subst (λ (xs : List ScriptLine). Driven n ks xs) el d) in
+    let to : RunsTo (ending (breach_at ks) (rounds ks)) given s ks = ends (breach_at ks) given s ks u refl (moment, i, m) whole driven in
+    subst (λ (xs : List Event). RunsTo f given s xs) (sym ej) (subst (λ (o : Option PerformFault). RunsTo o given s ks) (sym (ef ∙ e)) to)
+client_runs (Err x) f h given s js ks u v n ls moment ef ej ev en el i m w d e k = subst (λ (o : Option PerformFault). RunsTo o given s js) (sym (ef ∙ k)) tt
 
 -- ---- at each moment of a run
 

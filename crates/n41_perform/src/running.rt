@@ -13,7 +13,7 @@ ghost use Rattle.n41_perform.specs.Performs.{IsClientOf, IsWhole, RunsTo, caller
 
 use crate::PerformFault;
 use crate::client::{callers_of, make_client};
-use n41_core::Packet;
+use n41_core::{Core, Packet};
 use n41_desk::Desk;
 use n41_drive::drive;
 use n41_journal::Journal;
