@@ -1,12 +1,11 @@
 -- What was read, done and printed, by the fault of the whole.
-use Rattle.std.proofs.Common.{◌≡◌, ℕ, Bool, true, false, List, [], Option, Some, None, refl, sym, subst, inl, arith}
+use Rattle.std.proofs.Common.{◌≡◌, ℕ, Bool, false, List, [], Option, Some, None, refl, sym, subst, arith}
 use Rattle.n41_journal.specs.declared.events.Event.{Event}
 use Rattle.n41_link.specs.Counts.{Counts}
 use Rattle.n41_script.specs.declared.script.Script.{Script}
 use Rattle.n41_perform.specs.declared.fault.PerformFault.{PerformFault}
 use Rattle.n41_perform.specs.declared.fault.PerformFault.TheVariants as fault
 use Rattle.n41_perform.specs.Performs.{ReadScript, ReadFails, Prints, IsUntouched, Outcome, is_read_fault, is_write_fault}
-use Rattle.n41_perform.proofs.Printings.{counts_none}
 
 -- ---- a script was read
 
@@ -40,6 +39,9 @@ untouched_at fault.NoMemory given left left_new taken h = refl
 
 pub untouched : (f : PerformFault) (g : Option PerformFault) (given : ℕ → Bool) (left left_new taken : Option (List ℕ)) (js : List Event) → g ≡ Some f → js ≡ [] → ReadFails f left left_new → Outcome g given left left_new taken taken js
 untouched f g given left left_new taken js e n h = rw (e, n) (untouched_at f given left left_new taken h)
+
+counts_none : (n : ℕ) → Counts n n false
+counts_none n = record { later = omega arith; rose = λ e. absurd (cc) }
 
 unread_writes_at : (f : PerformFault) (left left_new : Option (List ℕ)) (n : ℕ) → ReadFails f left left_new → Counts n n (is_write_fault (Some f))
 unread_writes_at (fault.Script line kind) left left_new n h = counts_none n

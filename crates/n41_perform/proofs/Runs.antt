@@ -1,10 +1,7 @@
 -- The run of a script: how it ended, what a run that did not begin leaves, and what holds at each of its moments.
-use Rattle.std.proofs.Common.{◌≡◌, ℕ, ◌+◌, ◌≤◌, ◌<◌, Bool, true, false, IsTrue, List, [], ◌∷◌, ◌++◌, Option, Some, None, if◌then◌else◌, refl, sym, ◌∙◌, subst, inl, arith}
+use Rattle.std.proofs.Common.{◌≡◌, ℕ, ◌≤◌, ◌<◌, Bool, true, false, List, [], ◌∷◌, ◌++◌, Option, Some, None, if◌then◌else◌, refl, sym, ◌∙◌, subst, inl, arith}
 use Rattle.std.proofs.lemmas.Bool.Decides.{nat_tests}
 use Rattle.std.specs.Prelude.{Result, Ok, Err, OnOk, OnErr, nat_le}
-use Rattle.n41_link.specs.declared.connection.Inflow.{Ghosts as InGhosts}
-use Rattle.n41_link.specs.declared.connection.Outflow.{Ghosts as OutGhosts}
-use Rattle.n41_results.specs.declared.messages.Parcel.{Ghosts as ParcelGhosts}
 use Rattle.n41_journal.specs.declared.events.Event.{Event}
 use Rattle.n41_model.specs.declared.words.Setup.{Setup}
 use Rattle.n41_model.specs.Answers.{breach_at, round_limit}
@@ -13,10 +10,6 @@ use Rattle.n41_model.specs.OneOut.{KeepsOneOut}
 use Rattle.n41_model.specs.Requests.{rounds}
 use Rattle.n41_script.specs.declared.script.Script.{Script}
 use Rattle.n41_script.specs.declared.script.ScriptLine.{ScriptLine}
-use Rattle.n41_wire.specs.declared.wire.Wire.{Wire}
-use Rattle.n41_desk.specs.Journals.{moments}
-use Rattle.n41_desk.specs.Lines.{AreWires}
-use Rattle.n41_desk.specs.Moments.{AreGiven, CountsDials}
 use Rattle.n41_drive.specs.Drives.{Driven}
 use Rattle.n41_perform.specs.declared.fault.PerformFault.{PerformFault}
 use Rattle.n41_perform.specs.declared.fault.PerformFault.TheVariants as fault
@@ -33,18 +26,6 @@ whole_at = (nobody, record { kept = tt; settled = λ c h. inl refl })
 
 pub whole_none : (js : List Event) → js ≡ [] → (setup : Setup) × IsWhole setup js
 whole_none js e = subst (λ (ks : List Event). (setup : Setup) × IsWhole setup ks) (sym e) whole_at
-
-pub given_none : (given : ℕ → Bool) (js : List Event) → js ≡ [] → AreGiven given (moments js)
-given_none given js e = subst (λ (ks : List Event). AreGiven given (moments ks)) (sym e) tt
-
-dials_at : (n : ℕ) → CountsDials [] [] n n
-dials_at n = record { later = omega arith; few = inl (omega arith) }
-
-pub dials_none : (js : List Event) (n m : ℕ) → js ≡ [] → m ≡ n → CountsDials [] js n m
-dials_none js n m e k = rw (e, k) (dials_at n)
-
-pub wires_none : {I O P : Type 0} {g : InGhosts I} {h : OutGhosts O} {k : ParcelGhosts P} (ws : List (Wire I O P g h k)) → ws ≡ [] → AreWires [] ws
-wires_none ws e = ([], None, record { broken = tt; last = (refl, refl) }, e)
 
 -- ---- how a run ended
 
