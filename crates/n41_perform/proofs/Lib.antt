@@ -1,0 +1,5 @@
+mod Scripts
+mod Readings
+mod Printings
+mod Runs
+mod Outcomes
