@@ -1,5 +1,6 @@
 -- A run that has ended, whose unanswered commands go on: there is none.
 use Rattle.std.proofs.Common.{◌≡◌, ◌⊎◌, inl, inr, ℕ, zero, suc, ◌<◌, ◌≤◌, Bool, true, false, ◌&&◌, ◌||◌, List, [], ◌∷◌, Option, Some, None, if◌then◌else◌, refl, sym, ◌∙◌, ap, subst, arith}
+use Rattle.std.proofs.lemmas.Bool.{cases_lt}
 use Rattle.std.proofs.lemmas.Bool.Decides.{nat_tests}
 use Rattle.std.specs.Prelude.{is_none, nat_le}
 use Rattle.n41_types.specs.declared.commands.Command.{Command}
@@ -180,8 +181,7 @@ answered js zero c e l = absurd (omega (arith, l))
 answered js (suc n) c e l =
     let h = both (is_none (command js n)) (all_answered js n) e in
     let here : command js n ≡ None = none_is (command js n) h.0 in
-    let q : (c < n) ⊎ (c ≡ n) = omega (arith, l) in
-    elim q [ inl m ↦ answered js n c h.1 m | inr i ↦ subst (λ (k : ℕ). command js k ≡ None) (sym i) here ]
+    elim (cases_lt c n) [ inl m ↦ answered js n c h.1 m | inr i ↦ subst (λ (k : ℕ). command js k ≡ None) (let e : n ≡ c = omega (arith, i, l) in e) here ]
 
 -- a command that goes on is unanswered, so not all are
 at_end : (n : ℕ) (js : List Event) (c : ℕ) → c < n → has_ended n js ≡ true → IsDone n js c → command js c ≡ None

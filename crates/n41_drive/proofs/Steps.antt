@@ -76,7 +76,7 @@ not_quit e = absurd (cc)
 pub begins_none : (n : ℕ) (js : List Event) (ls : List ScriptLine) → js ≡ [] → Begins n js ls
 begins_none n js ls e = subst (λ (ks : List Event). Begins n ks ls) (sym e) (record { began = λ c l. (0, refl); all = λ q. not_quit q })
 
-zero_at : (n c : ℕ) → get_or (replicate n 0) c 0 ≡ 0
+zero_at : (n c : ℕ) → ◌≡◌ {A = ℕ} (get_or (replicate n 0) c 0) 0
 zero_at zero c = refl
 zero_at (suc n) zero = refl
 zero_at (suc n) (suc c) = zero_at n c
