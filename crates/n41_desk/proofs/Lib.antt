@@ -1,0 +1,10 @@
+mod Events
+mod Fates
+mod Small
+mod Heard
+mod Taken
+mod Linked
+mod Lined
+mod Noted
+mod Acted
+mod Held

@@ -1,0 +1,39 @@
+use Rattle.std.proofs.Common.{◌≡◌, ◌≤◌, ℕ, length, subst, sym, arith}
+use Rattle.n41_types.specs.declared.plans.Request.{Request}
+use Rattle.n41_requests.specs.Requests.{IsSpellable, Fits, spelled}
+use Rattle.n41_desk.proofs.Linked.{says, sends, put_something}
+use Rattle.n41_desk.proofs.Small.{due_short}
+use Rattle.n41_desk.proofs.saying.say.Goals as goal
+
+pub request_fits-requires : goal.request_fits-requires
+request_fits-requires g c =
+    let h = rw c.in-Some.is at c.in_ok-packet.ensures.some in
+    let s = due_short c.args.core.now.setup c.args.core.now.events h.0 c.in-Some.packet.request c.requires.owner c.kept.ensures h.1.due in
+    subst (λ (q : Request). IsSpellable q) (sym c.request.ensures) s.1
+
+pub tell-sent-requires-clause-short : goal.tell-sent-requires-clause-short
+tell-sent-requires-clause-short g c =
+    let h = rw c.in-Some.is at c.in_ok-packet.ensures.some in
+    let s = due_short c.args.core.now.setup c.args.core.now.events h.0 c.in-Some.packet.request c.requires.owner c.kept.ensures h.1.due in
+    let l : length (spelled c.in-Some.packet.request) ≤ 2000 = c.small_requests.ensures c.in-Some.packet.request s.0 (subst (λ (q : Request). Fits q) c.request.ensures c.request_fits.ensures) in
+    omega (arith, l)
+
+pub returns-in_default-clause-fares : goal.returns-in_default-clause-fares
+returns-in_default-clause-fares g c =
+    let h = rw c.in_default.is at c.in_ok-packet.ensures.none in
+    absurd (put_something c.args.core.now.setup c.args.core.now.events c.args.conn c.requires.carries.stands c.requires.wanted h.1)
+
+pub returns-in_default-clause-sends : goal.returns-in_default-clause-sends
+returns-in_default-clause-sends g c =
+    let h = rw c.in_default.is at c.in_ok-packet.ensures.none in
+    absurd (put_something c.args.core.now.setup c.args.core.now.events c.args.conn c.requires.carries.stands c.requires.wanted h.1)
+
+pub returns-clause-fares : goal.returns-clause-fares
+returns-clause-fares g c =
+    let h = rw c.in-Some.is at c.in_ok-packet.ensures.some in
+    says c.tell-sent.result c.follow.result c.args.core.now c.next_out.new.self c.follow.new.core c.args.conn c.in-Some.packet h.0 c.args.wire.now c.tell-sent.new.outlet c.requires.carries c.tell-sent.ensures.told c.tell-sent.ensures.tells h.1 c.follow.ensures
+
+pub returns-clause-sends : goal.returns-clause-sends
+returns-clause-sends g c =
+    let h = rw c.in-Some.is at c.in_ok-packet.ensures.some in
+    sends c.tell-sent.result c.follow.result c.args.core.now c.next_out.new.self c.follow.new.core c.args.conn c.in-Some.packet h.0 h.1 c.follow.ensures

@@ -1,0 +1,9 @@
+//! One thread that works through a script: it gives each caller in turn its next command, and takes the desk's turns until the run has ended.
+#![tactic(auto)]
+
+mod driving;
+mod next;
+#[cfg(test)]
+mod tests;
+
+pub use driving::drive;

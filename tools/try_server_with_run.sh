@@ -1,0 +1,243 @@
+#!/usr/bin/env bash
+# Tries the program against a real server and against bad peers, all on the loopback. One line a try; it ends by itself, with status 1 where a try fails.
+# The server is nfs-ganesha with its tree in memory. Without it nothing is tried.
+set -u
+cd "$(dirname "$0")/.." || exit 1
+tools=$PWD/tools
+program=$PWD/crates/nfs41c/out/nfs41c
+
+if ! command -v ganesha.nfsd >/dev/null; then
+    echo "skipped: nfs-ganesha is not installed"
+    exit 0
+fi
+if ! command -v python3 >/dev/null; then
+    echo "skipped: python3 is not installed"
+    exit 0
+fi
+if [ ! -x "$program" ]; then
+    echo "failed: there is no $program; run rt ci first"
+    exit 1
+fi
+
+state=$(mktemp -d "${TMPDIR:-/tmp}/nfs41c-tries.XXXXXX") || exit 1
+started=()
+failed=0
+
+finish() {
+    local pid
+    for pid in "${started[@]}"; do
+        kill "$pid" 2>/dev/null
+    done
+    for pid in "${started[@]}"; do
+        wait_gone "$pid"
+    done
+    rm -rf "$state"
+}
+
+# Waits for a process up to five seconds, then ends it.
+wait_gone() {
+    local turn
+    for turn in $(seq 50); do
+        kill -0 "$1" 2>/dev/null || return 0
+        sleep 0.1
+    done
+    kill -9 "$1" 2>/dev/null
+}
+trap finish EXIT
+trap 'exit 1' INT TERM
+
+# A port of the loopback that is free now.
+free_port() {
+    python3 -c 'import socket; s = socket.socket(); s.bind(("127.0.0.1", 0)); print(s.getsockname()[1])'
+}
+
+# report NAME OK [DETAIL]: the line of a try, of which OK is 0 where it went well
+report() {
+    if [ "$2" -eq 0 ]; then
+        echo "ok: $1"
+    else
+        echo "failed: $1: ${3-}"
+        failed=1
+    fi
+}
+
+# start NAME INPUT WORDS: runs the program on the file INPUT; leaves NAME.out, NAME.err, NAME.status and NAME.memory (the most memory that it held, in KiB)
+start() {
+    local name=$1 input=$2
+    shift 2
+    python3 - "$state/$name" "$input" "$program" "$@" <<'PYTHON'
+import os, resource, subprocess, sys
+place, given, words = sys.argv[1], sys.argv[2], sys.argv[3:]
+with open(given, "rb") as stdin, open(place + ".out", "wb") as out, open(place + ".err", "wb") as err:
+    try:
+        status = subprocess.run(words, stdin=stdin, stdout=out, stderr=err, timeout=80).returncode
+    except subprocess.TimeoutExpired:
+        status = "no end"
+most = resource.getrusage(resource.RUSAGE_CHILDREN).ru_maxrss
+for name, value in (("memory", most), ("status", status)):
+    with open(place + "." + name, "w") as file:
+        file.write(str(value))
+PYTHON
+}
+
+probe() {
+    start "$1" /dev/null probe "$2"
+}
+
+# expect NAME STATUS OUT ERR: compares what a run of the program left
+expect() {
+    local place=$state/$1 status out err
+    status=$(cat "$place.status")
+    out=$(cat "$place.out")
+    err=$(cat "$place.err")
+    if [ "$status" = "$2" ] && [ "$out" = "$3" ] && [ "$err" = "$4" ]; then
+        report "$1" 0
+    else
+        report "$1" 1 "status $status, printed '$out', fault '$err'"
+    fi
+}
+
+# respond NAME MODE: starts a responder in that mode and waits for its port
+respond() {
+    local turn
+    python3 "$tools/responder.py" "$state/$1.port" "$2" 2>"$state/$1.peer" &
+    started+=($!)
+    for turn in $(seq 100); do
+        [ -f "$state/$1.port" ] && return 0
+        sleep 0.05
+    done
+    echo 1 >"$state/$1.port"
+}
+
+# answered_by NAME MODE: probes a responder in that mode
+answered_by() {
+    respond "$1" "$2"
+    probe "$1" "127.0.0.1:$(cat "$state/$1.port")"
+}
+
+start_server() {
+    local turn
+    server_port=$(free_port)
+    mkdir -p "$state/recovery"
+    sed -e "s#@PORT@#$server_port#" -e "s#@STATE@#$state#" "$tools/ganesha.conf" >"$state/ganesha.conf"
+    ganesha.nfsd -F -f "$state/ganesha.conf" -L "$state/ganesha.log" -p "$state/ganesha.pid" -N NIV_EVENT \
+        >"$state/ganesha.out" 2>&1 </dev/null &
+    server_pid=$!
+    started+=("$server_pid")
+    for turn in $(seq 150); do
+        kill -0 "$server_pid" 2>/dev/null || return 1
+        python3 -c 'import socket, sys; socket.create_connection(("127.0.0.1", int(sys.argv[1])), 1)' "$server_port" 2>/dev/null && return 0
+        sleep 0.1
+    done
+    return 1
+}
+
+try_server() {
+    local line
+    if ! start_server; then
+        report "the server starts" 1 "$(tail -n 3 "$state/ganesha.log" 2>/dev/null)"
+        return
+    fi
+    probe server "127.0.0.1:$server_port"
+    line=$(cat "$state/server.out")
+    [ "$(cat "$state/server.status")" = 0 ] && [ ! -s "$state/server.err" ] &&
+        [[ $line =~ ^client\ [0-9]+,\ sequence\ [0-9]+,\ confirmed\ no,\ server\ ([0-9a-f]+|-),\ scope\ ([0-9a-f]+|-)$ ]] &&
+        [ "$(wc -l <"$state/server.out")" -eq 1 ]
+    report "the server's ids" $? "status $(cat "$state/server.status"), printed '$line', fault '$(cat "$state/server.err")'"
+}
+
+# relay NAME EVERY: starts a relay to the server, which loses every so many records of the server, and waits for its port; what passed is in the folder NAME.wire
+relay() {
+    local turn
+    mkdir -p "$state/$1.wire"
+    python3 "$tools/relay.py" "$state/$1.port" "$server_port" "$2" "$state/$1.wire" 2>"$state/$1.peer" &
+    started+=($!)
+    for turn in $(seq 100); do
+        [ -f "$state/$1.port" ] && return 0
+        sleep 0.05
+    done
+    echo 1 >"$state/$1.port"
+}
+
+# The first answer of a stat of the root, as the server gives it.
+root="1 a stat type 2 size [0-9]+ fileid [0-9]+ mode 0[0-7]{3}"
+
+try_stat() {
+    relay stat 0
+    echo "a stat /" >"$state/stat.script"
+    start stat "$state/stat.script" run "127.0.0.1:$(cat "$state/stat.port")"
+    [ "$(cat "$state/stat.status")" = 0 ] && [ ! -s "$state/stat.err" ] && [[ $(cat "$state/stat.out") =~ ^$root$ ]]
+    report "a stat of the server's root" $? "status $(cat "$state/stat.status"), printed '$(cat "$state/stat.out")', fault '$(cat "$state/stat.err")'"
+}
+
+# dumped SIDE: dumps what one side of the stat's connection wrote
+dumped() {
+    start "dump-$1" "$state/stat.wire/$1" dump "$1"
+    [ "$(cat "$state/dump-$1.status")" = 0 ] && [ "$(tail -n 1 "$state/dump-$1.out")" = "rest 0" ] && ! grep -q " bad " "$state/dump-$1.out" &&
+        [ "$(wc -l <"$state/dump-$1.out")" -eq 8 ]
+    report "the dump of the $1" $? "status $(cat "$state/dump-$1.status"), printed '$(cat "$state/dump-$1.out")'"
+}
+
+# 64 callers with 50 commands each, while every 40th record of the server is lost with its connection
+try_many() {
+    local caller
+    relay many 40
+    for caller in $(seq 64); do
+        yes "c$caller stat /" | head -n 50
+    done >"$state/many.script"
+    start many "$state/many.script" run "127.0.0.1:$(cat "$state/many.port")"
+    [ "$(cat "$state/many.status")" = 0 ] && [ "$(grep -cE "^[0-9]+ c[0-9]+ stat type 2 " "$state/many.out")" -eq 3200 ] &&
+        [ "$(cat "$state/many.wire/cuts")" -gt 40 ]
+    report "64 callers through $(cat "$state/many.wire/cuts" 2>/dev/null) cuts" $? \
+        "status $(cat "$state/many.status"), $(wc -l <"$state/many.out") lines, fault '$(cat "$state/many.err")'"
+}
+
+try_nobody() {
+    local begin end
+    begin=$(date +%s%N)
+    probe nobody "127.0.0.1:$(free_port)"
+    end=$(date +%s%N)
+    expect nobody 6 "" "unreachable after 1 rounds"
+    [ $((end - begin)) -lt 3000000000 ]
+    report "nobody, within three seconds" $? "$(((end - begin) / 1000000)) ms"
+}
+
+line="client 7, sequence 1, confirmed no, server 737276, scope 737276"
+unreachable="unreachable after 1 rounds"
+breach="breach at event 0"
+
+# It takes a minute, beside the others.
+respond silent silent
+probe silent "127.0.0.1:$(cat "$state/silent.port")" &
+silent_pid=$!
+started+=("$silent_pid")
+
+try_server
+try_stat
+dumped client
+dumped server
+try_many
+try_nobody
+answered_by answer answer
+expect answer 0 "$line" ""
+answered_by pieces pieces
+expect pieces 0 "$line" ""
+answered_by delay delay
+expect delay 7 "" "$breach"
+answered_by xid xid
+expect xid 7 "" "$breach"
+answered_by rubbish rubbish
+expect rubbish 7 "" "$breach"
+answered_by half half
+expect half 6 "" "$unreachable"
+answered_by fragments fragments
+expect fragments 0 "$line" ""
+answered_by huge huge
+expect huge 6 "" "$unreachable"
+[ "$(cat "$state/huge.memory")" -lt 65536 ]
+report "huge, in less than 64 MiB" $? "$(cat "$state/huge.memory") KiB"
+
+wait "$silent_pid"
+expect silent 6 "" "$unreachable"
+
+exit "$failed"
