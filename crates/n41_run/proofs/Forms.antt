@@ -1,5 +1,5 @@
 -- The first word that fits no form, case by case.
-use Rattle.std.proofs.Common.{◌≡◌, ℕ, ◌<◌, ◌≤◌, ◌^◌, ◌+◌, List, [], ◌∷◌, ◌++◌, length, refl, sym, ap, subst, ◌∙◌, arith, lit<, codes, map, String, string_bytes, Global}
+use Rattle.std.proofs.Common.{◌≡◌, ℕ, ◌<◌, List, [], ◌∷◌, length, refl, sym, ap, subst, ◌∙◌, arith, lit<, codes, map, String, string_bytes, Global}
 use Rattle.std.proofs.lemmas.Fmt.{decimal_digit}
 use Rattle.n41_lines.specs.declared.side.Side.TheVariants.{Client}
 use Rattle.n41_run.specs.declared.words.Command.{Command}

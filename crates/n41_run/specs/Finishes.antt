@@ -12,13 +12,14 @@ use Rattle.n41_lines.specs.declared.side.Side.{Side}
 use Rattle.n41_dump.specs.Causes as dumps
 use Rattle.n41_dump.specs.declared.fault.DumpFault.{DumpFault}
 use Rattle.n41_dump.specs.declared.fault.DumpFault.TheVariants as dump
+use Rattle.n41_probe.specs.Probes.{request, HearsNone, BeginsToAsk, IsProbed, IsPartlyProbed, IsCut}
+use Rattle.n41_probe.specs.declared.fault.ProbeFault.{ProbeFault}
+use Rattle.n41_probe.specs.declared.fault.ProbeFault.TheVariants as probe
+use Rattle.n41_probe.specs.declared.talk.Talk.{Talk}
 use Rattle.n41_script.specs.declared.fault.LineKind.TheVariants as kind
 use Rattle.n41_run.specs.declared.fault.RunFault.{RunFault}
 use Rattle.n41_run.specs.declared.fault.RunFault.TheVariants as run
-use Rattle.n41_run.specs.declared.talk.Talk.{Talk}
-use Rattle.n41_run.specs.Causes.{status, IsOfProbe, IsCut}
-use Rattle.n41_run.specs.Exchange.{request}
-use Rattle.n41_run.specs.Probed.{HearsNone, BeginsToAsk, IsProbed, IsPartlyProbed}
+use Rattle.n41_run.specs.Causes.{status, IsOfProbe}
 use Rattle.n41_run.specs.Words.{IsAddress, IsFirstBad, side_text}
 
 -- ---- what the words ask for
@@ -41,6 +42,17 @@ of_dump dump.NoMemory = run.NoMemory
 abbrev pub dump_fault : {T : Type 0} → Result T DumpFault → Option RunFault
 dump_fault (Ok x) = None
 dump_fault (Err f) = Some (of_dump f)
+
+-- one round is made, and a probe has event 0 alone
+abbrev pub of_probe : ProbeFault → RunFault
+of_probe probe.Unreachable = run.Unreachable 1
+of_probe probe.Breach = run.Breach 0
+of_probe probe.WriteFault = run.WriteFault
+of_probe probe.NoMemory = run.NoMemory
+
+abbrev pub probe_fault : {T : Type 0} → Result T ProbeFault → Option RunFault
+probe_fault (Ok x) = None
+probe_fault (Err f) = Some (of_probe f)
 
 -- ---- what each command leaves
 

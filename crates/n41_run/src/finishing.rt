@@ -1,5 +1,5 @@
 // What each command of the program leaves.
-ghost use Rattle.std.specs.Prelude.{◌≡◌, Some};
+ghost use Rattle.std.specs.Prelude.{◌≡◌, Some, IsNone};
 ghost use Rattle.n41_run.specs.Causes.{status};
 ghost use Rattle.n41_run.specs.Finishes.{DumpEnds, ProbeEnds};
 
@@ -18,6 +18,7 @@ pub(crate) fn refuse<D: Dialer, H: Listener, C>(
     ensures fault { result.fault ≡ Some (RunFault.Words place) }
     ensures status { result.status ≡ 2 }
     ensures same { (result.dialer ≡ dialer) × (result.house ≡ house) × (result.clock ≡ clock) }
+    ensures no_link { IsNone result.probed }
 {
     Finish {
         status: 2,
@@ -66,6 +67,7 @@ pub(crate) fn finish_dump<S: Source, K: Sink, D: Dialer, H: Listener, C>(
     ensures status { result.status ≡ status result.fault }
     ensures ends { DumpEnds side result.fault (S.left source.old) (S.left source.new) (S.faults source.old) (S.faults source.new) (K.taken sink.old) (K.taken sink.new) (K.faults sink.old) (K.faults sink.new) }
     ensures same { (result.dialer ≡ dialer) × (result.house ≡ house) × (result.clock ≡ clock) }
+    ensures no_link { IsNone result.probed }
 {
     let (status, fault) = dump(alloc, side, source, sink);
     Finish {

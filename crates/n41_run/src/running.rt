@@ -1,5 +1,5 @@
 // All that the program does.
-ghost use Rattle.std.specs.Prelude.{◌≡◌, ◌⊎◌, ◌↔◌, ℕ, List, map, string_bytes, IfSome};
+ghost use Rattle.std.specs.Prelude.{◌≡◌, ◌⊎◌, ◌↔◌, ℕ, List, map, string_bytes, IsNone};
 ghost use Rattle.n41_lines.specs.declared.side.Side.{Side as SideValue};
 ghost use Rattle.n41_run.specs.Causes.{status};
 ghost use Rattle.n41_run.specs.Finishes.{AsksDump, AsksProbe, DumpEnds, ProbeEnds, RefusesWords};
@@ -51,9 +51,10 @@ pub fn run<
     ensures status { result.status ≡ status result.fault }
     ensures words { (result.status ≡ 2) ↔ (IsForm (map string_bytes words.now) → ⊥) }
     ensures untouched { result.status ≡ 2 → (source.new ≡ source.old) × (sink.new ≡ sink.old) × (result.dialer ≡ dialer) × (result.clock ≡ clock) }
+    ensures no_link { result.status ≡ 2 → IsNone result.probed }
     ensures house { result.house ≡ house }
     // The words are no form, or they ask for one of these, which left what it leaves.
-    ensures ends { RefusesWords (map string_bytes words.now) result.fault ⊎ (((a : List ℕ) × AsksProbe (map string_bytes words.now) a × ProbeEnds result.fault result.probed (C.given result.clock) (C.ahead clock) (C.last clock) (C.last result.clock) (D.faults dialer) (D.faults result.dialer) (K.taken sink.old) (K.taken sink.new) (K.faults sink.old) (K.faults sink.new)) ⊎ ((side : SideValue) × AsksDump (map string_bytes words.now) side × DumpEnds side result.fault (S.left source.old) (S.left source.new) (S.faults source.old) (S.faults source.new) (K.taken sink.old) (K.taken sink.new) (K.faults sink.old) (K.faults sink.new))) }
+    ensures ends { RefusesWords (map string_bytes words.now) result.fault ⊎ (((a : List ℕ) × AsksProbe (map string_bytes words.now) a × (source.new ≡ source.old) × ProbeEnds result.fault result.probed (C.given result.clock) (C.ahead clock) (C.last clock) (C.last result.clock) (D.faults dialer) (D.faults result.dialer) (K.taken sink.old) (K.taken sink.new) (K.faults sink.old) (K.faults sink.new)) ⊎ ((side : SideValue) × AsksDump (map string_bytes words.now) side × IsNone result.probed × (result.dialer ≡ dialer) × (result.clock ≡ clock) × DumpEnds side result.fault (S.left source.old) (S.left source.new) (S.faults source.old) (S.faults source.new) (K.taken sink.old) (K.taken sink.new) (K.faults sink.old) (K.faults sink.new))) }
 {
     match command_of(words) {
         Ok(Command::Probe(addr)) => finish_probe(alloc, addr, sink, dialer, house, clock),

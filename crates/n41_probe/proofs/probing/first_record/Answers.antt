@@ -1,7 +1,7 @@
 use Rattle.std.proofs.Common.{arith}
 use Rattle.n41_link.specs.Ends.{ear_gather}
-use Rattle.n41_run.proofs.Asking.{wait_shrinks}
-use Rattle.n41_run.proofs.probing.first_record.Goals as goal
+use Rattle.n41_probe.proofs.Asked.{wait_shrinks}
+use Rattle.n41_probe.proofs.probing.first_record.Goals as goal
 
 pub loop-ear-smaller : goal.loop-ear-smaller
 loop-ear-smaller g c =

@@ -1,6 +1,6 @@
 use Rattle.std.proofs.Common.{◌≡◌, ◌-◌, ◌+◌, ◌*◌, ◌^◌, [], None, length}
 use Rattle.n41_link.specs.Ends.{ear_log, ear_given, ear_fault, ear_still}
-use Rattle.n41_run.proofs.probing.first_record.Given as goal
+use Rattle.n41_probe.proofs.probing.first_record.Given as goal
 
 abbrev pub invariant-loop-ear : goal.invariant-loop-ear
 invariant-loop-ear g l = record {

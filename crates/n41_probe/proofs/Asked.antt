@@ -1,12 +1,11 @@
 -- What was written of the request, and when the wait for a record is over.
-use Rattle.std.proofs.Common.{◌≡◌, ◌≤◌, ◌<◌, ◌+◌, ◌-◌, ◌*◌, ◌^◌, inl, inr, subst, eq-or-lt_of_le, ◌∙◌, ap, sym, refl, arith, ℕ, List, [], ◌++◌, take, drop, length, true}
+use Rattle.std.proofs.Common.{◌≡◌, ◌≤◌, ◌<◌, ◌+◌, ◌-◌, ◌*◌, ◌^◌, inl, inr, eq-or-lt_of_le, ◌∙◌, ap, sym, refl, arith, ℕ, List, [], ◌++◌, take, drop, length, true}
 use Rattle.std.proofs.lemmas.List.{take-append-drop, length-append}
 use Rattle.n41_record.specs.Fragments.{fragment}
 use Rattle.n41_record.specs.Gathered.{Gathered}
 use Rattle.n41_link.specs.Heard.{Stills, GaveAll}
 use Rattle.n41_link.proofs.Records.{read_size}
-use Rattle.n41_run.specs.Exchange.{request}
-use Rattle.n41_run.specs.Probed.{BeginsToAsk}
+use Rattle.n41_probe.specs.Probes.{request, BeginsToAsk}
 
 pub nothing_asked : (moment : ℕ) (old new : List ℕ) → old ≡ [] → new ≡ old → BeginsToAsk moment new
 nothing_asked moment old new e same = record {
