@@ -160,11 +160,11 @@ fn texts_of(alloc: Global, words: &[&str]) -> Result<Vec<String>, Fail> {
 }
 
 #[test]
-fn streams_are_dumped(rt: HostRuntime) -> Result<(), Fail> {
+fn streams_are_dumped_and_an_empty_script_asks_nothing(rt: HostRuntime) -> Result<(), Fail> {
     let alloc = rt.alloc();
     // A header that claims four bytes, of which none is a message, and then a rest.
     let bad: &[u8] = &[0x80, 0, 0, 4, 0, 0, 0, 9, 0x80];
-    let rows: [([&str; 2], &[u8], u8, &[u8]); 4] = [
+    let rows: [([&str; 2], &[u8], u8, &[u8]); 6] = [
         (
             ["dump", "client"],
             CALL,
@@ -179,6 +179,8 @@ fn streams_are_dumped(rt: HostRuntime) -> Result<(), Fail> {
         ),
         (["dump", "client"], bad, 0, b"1 bad 00000009\nrest 1\n"),
         (["dump", "clients"], CALL, 2, b""),
+        (["run", "x:2049"], b"# nothing\n", 0, b""),
+        (["run", "x:2049"], b"a stat /\nb look /\n", 3, b""),
     ];
     for (words, given, status, text) in rows {
         let mut sink = SureSink::new(alloc);
