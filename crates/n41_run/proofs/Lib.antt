@@ -1,3 +1,4 @@
 pub mod Address
 pub mod Forms
 pub mod Probed
+mod Ended
