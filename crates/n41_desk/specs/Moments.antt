@@ -8,6 +8,10 @@ abbrev pub AreGiven : (ℕ → Bool) → List ℕ → Type 0
 AreGiven given [] = Unit {0}
 AreGiven given (m ∷ ms) = IsTrue (given m) × AreGiven given ms
 
+-- what was given stays given
+abbrev pub KeepsGiven : (ℕ → Bool) → (ℕ → Bool) → Type 0
+KeepsGiven before now = (m : ℕ) → IsTrue (before m) → IsTrue (now m)
+
 -- The dials that failed from one journal to a later one are no more than those by which a count of faults rose, or the count stands at the last
 -- value of its type.
 pub record CountsDials (old new : List Event) (before now : ℕ) : Type 0 where

@@ -10,7 +10,7 @@ ghost use Rattle.n41_core.specs.Settled.{IsSettled};
 ghost use Rattle.n41_core.specs.State.{appends};
 ghost use Rattle.n41_desk.specs.Journals.{moments};
 ghost use Rattle.n41_desk.specs.Lines.{AreWires};
-ghost use Rattle.n41_desk.specs.Moments.{AreGiven, CountsDials};
+ghost use Rattle.n41_desk.specs.Moments.{AreGiven, CountsDials, KeepsGiven};
 ghost use Rattle.n41_desk.specs.Steps.{IsNoted, PostCause, Posts, TakesTurn};
 
 use crate::lines::Lines;
@@ -106,6 +106,7 @@ where
         ensures err { OnErr result (IsNoted (desk_state self.old) (desk_state self.new)) }
         ensures cause { IfErr result (λ fault. PostCause (desk_state self.new) caller fault) }
         ensures dialer { desk_dialer self.new ≡ desk_dialer self.old }
+        ensures keeps { KeepsGiven (C.given (desk_clock self.old)) (C.given (desk_clock self.new)) }
         ensures tells { C.tells (desk_clock self.new) ≡ C.tells (desk_clock self.old) }
         ensures holds { Holds C.given self.new }
     {
@@ -138,6 +139,7 @@ where
         ensures ok { IfOk result (λ turn. TakesTurn (WasQuiet self.old self.new) (desk_state self.old) (desk_state self.new) turn) }
         ensures err { OnErr result (IsNoted (desk_state self.old) (desk_state self.new)) }
         ensures counts { CountsDials (desk_state self.old).events (desk_state self.new).events (D.faults (desk_dialer self.old)) (D.faults (desk_dialer self.new)) }
+        ensures keeps { KeepsGiven (C.given (desk_clock self.old)) (C.given (desk_clock self.new)) }
         ensures tells { C.tells (desk_clock self.new) ≡ C.tells (desk_clock self.old) }
         ensures holds { Holds C.given self.new }
     {

@@ -5,7 +5,7 @@ ghost use Rattle.n41_model.specs.Requests.{moment as last_moment};
 ghost use Rattle.n41_core.specs.Causes.{WantCause};
 ghost use Rattle.n41_desk.specs.Journals.{moments};
 ghost use Rattle.n41_desk.specs.Lines.{HasLines, StaysQuiet};
-ghost use Rattle.n41_desk.specs.Moments.{AreGiven, CountsDials};
+ghost use Rattle.n41_desk.specs.Moments.{AreGiven, CountsDials, KeepsGiven};
 ghost use Rattle.n41_desk.specs.Steps.{Acts, Notes};
 
 use crate::lines::{Lines, dial};
@@ -26,6 +26,7 @@ pub(crate) fn note<C: Clock>(core: &mut Core, clock: &mut C) -> Result<(), NoMem
     ensures last { OnOk result (IsTrue (C.given clock.new (last_moment core.new.events))) }
     ensures notes { OnOk result ((m : ℕ) × (answers : List EventValue) × Notes core.old core.new m answers) }
     ensures err { OnErr result (core.new ≡ core.old) }
+    ensures keeps { KeepsGiven (C.given clock.old) (C.given clock.new) }
     ensures tells { C.tells clock.new ≡ C.tells clock.old }
 {
     let moment = clock.now();

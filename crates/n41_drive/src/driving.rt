@@ -3,7 +3,7 @@ ghost use Rattle.std.specs.Prelude.{◌≡◌, ◌≢◌, ◌<◌, ◌^◌, ℕ,
 ghost use Rattle.n41_journal.specs.declared.events.Event.{Event as EventValue};
 ghost use Rattle.n41_desk.specs.Desks.{desk_state, desk_dialer, desk_clock, Holds};
 ghost use Rattle.n41_desk.specs.Journals.{begun_by, failures};
-ghost use Rattle.n41_desk.specs.Moments.{CountsDials};
+ghost use Rattle.n41_desk.specs.Moments.{CountsDials, KeepsGiven};
 ghost use Rattle.n41_desk.specs.declared.turns.Turn.{Turn as TurnValue};
 ghost use Rattle.n41_drive.specs.Drives.{AreBuilt, AreBegun, AreFound, IsFound, HasBegun, PostsOnly, Works, IsAnswered, Driven, Begins};
 
@@ -34,6 +34,7 @@ where
     ensures found { IfOk result (λ done. IsTrue done → IsFound (desk_state desk.new).events lines.now caller) }
     ensures still { IfOk result (λ done. IsTrue done → desk_state desk.new ≡ desk_state desk.old) }
     ensures dialer { desk_dialer desk.new ≡ desk_dialer desk.old }
+    ensures keeps { KeepsGiven (C.given (desk_clock desk.old)) (C.given (desk_clock desk.new)) }
     ensures tells { C.tells (desk_clock desk.new) ≡ C.tells (desk_clock desk.old) }
     ensures holds { Holds C.given desk.new }
 {
@@ -73,6 +74,7 @@ where
     ensures posts { PostsOnly (desk_state desk.old) (desk_state desk.new) }
     ensures found { IfOk result (λ done. IsTrue done → AreFound (length places.new) (desk_state desk.new).events lines.now) }
     ensures dialer { desk_dialer desk.new ≡ desk_dialer desk.old }
+    ensures keeps { KeepsGiven (C.given (desk_clock desk.old)) (C.given (desk_clock desk.new)) }
     ensures tells { C.tells (desk_clock desk.new) ≡ C.tells (desk_clock desk.old) }
     ensures holds { Holds C.given desk.new }
 {
@@ -104,6 +106,7 @@ where
     ensures setup { (desk_state desk.new).setup ≡ (desk_state desk.old).setup }
     ensures failures { failures (desk_state desk.new).events ≡ failures (desk_state desk.old).events }
     ensures dialer { desk_dialer desk.new ≡ desk_dialer desk.old }
+    ensures keeps { KeepsGiven (C.given (desk_clock desk.old)) (C.given (desk_clock desk.new)) }
     ensures tells { C.tells (desk_clock desk.new) ≡ C.tells (desk_clock desk.old) }
     ensures holds { Holds C.given desk.new }
 {
@@ -133,6 +136,7 @@ where
     ensures idle { IfOk result (λ turn. turn ≡ TurnValue.Idle → IsAnswered (desk_state desk.new).setup.callers (desk_state desk.new).events) }
     ensures setup { (desk_state desk.new).setup ≡ (desk_state desk.old).setup }
     ensures counts { (js : List EventValue) (n : ℕ) → CountsDials js (desk_state desk.old).events n (D.faults (desk_dialer desk.old)) → CountsDials js (desk_state desk.new).events n (D.faults (desk_dialer desk.new)) }
+    ensures keeps { KeepsGiven (C.given (desk_clock desk.old)) (C.given (desk_clock desk.new)) }
     ensures tells { C.tells (desk_clock desk.new) ≡ C.tells (desk_clock desk.old) }
     ensures holds { Holds C.given desk.new }
 {
@@ -160,6 +164,7 @@ where
     ensures answered { OnOk result (IsAnswered (desk_state desk.new).setup.callers (desk_state desk.new).events) }
     ensures setup { (desk_state desk.new).setup ≡ (desk_state desk.old).setup }
     ensures counts { (js : List EventValue) (n : ℕ) → CountsDials js (desk_state desk.old).events n (D.faults (desk_dialer desk.old)) → CountsDials js (desk_state desk.new).events n (D.faults (desk_dialer desk.new)) }
+    ensures keeps { KeepsGiven (C.given (desk_clock desk.old)) (C.given (desk_clock desk.new)) }
     ensures tells { C.tells (desk_clock desk.new) ≡ C.tells (desk_clock desk.old) }
     ensures holds { Holds C.given desk.new }
 {
@@ -199,6 +204,7 @@ where
     ensures begun { OnErr result (Begins callers (desk_state desk.new).events lines.now) }
     ensures setup { (desk_state desk.new).setup ≡ (desk_state desk.old).setup }
     ensures counts { CountsDials [] (desk_state desk.new).events (D.faults (desk_dialer desk.old)) (D.faults (desk_dialer desk.new)) }
+    ensures keeps { KeepsGiven (C.given (desk_clock desk.old)) (C.given (desk_clock desk.new)) }
     ensures tells { C.tells (desk_clock desk.new) ≡ C.tells (desk_clock desk.old) }
     ensures holds { Holds C.given desk.new }
 {

@@ -5,7 +5,7 @@ use Rattle.n41_link.specs.Counts.{Counts}
 use Rattle.n41_script.specs.declared.script.Script.{Script}
 use Rattle.n41_perform.specs.declared.fault.PerformFault.{PerformFault}
 use Rattle.n41_perform.specs.declared.fault.PerformFault.TheVariants as fault
-use Rattle.n41_perform.specs.Performs.{ReadScript, ReadFails, Prints, IsUntouched, Outcome, is_read_fault, is_write_fault}
+use Rattle.n41_perform.specs.Performs.{ReadScript, ReadFails, Prints, Outcome, is_read_fault, is_write_fault}
 
 -- ---- a script was read
 

@@ -1,15 +1,15 @@
 -- What a text that is a script says: it has few callers, a short owner, and commands that are built.
-use Rattle.std.proofs.Common.{◌≡◌, ℕ, ◌+◌, ◌<◌, ◌≤◌, ◌&&◌, Bool, true, false, not, List, [], ◌∷◌, ◌++◌, length, Option, Some, None, Result, Ok, Err, if◌then◌else◌, refl, sym, ◌∙◌, ap, subst, arith, length-append}
+use Rattle.std.proofs.Common.{◌≡◌, ℕ, ◌+◌, ◌≤◌, ◌&&◌, Bool, true, false, not, List, [], ◌∷◌, ◌++◌, length, Some, Result, Ok, Err, if◌then◌else◌, refl, sym, ap, subst, arith, length-append}
 use Rattle.std.proofs.lemmas.Bool.Decides.{nat_tests}
 use Rattle.std.specs.Prelude.{IfOk, IsSome, nat_le, is_some}
 use Rattle.n41_types.specs.declared.commands.Command.{Command}
 use Rattle.n41_types.specs.declared.commands.Command.TheVariants as command
 use Rattle.n41_model.specs.Calls.{next_plan}
 use Rattle.n41_script.specs.Lines.{lines, words, is_skipped, is_long, readable}
-use Rattle.n41_script.specs.Words.{has_control, same, missing}
-use Rattle.n41_script.specs.Callers.{is_caller, is_kept, is_too_many, place, with_caller, caller_limit, caller}
+use Rattle.n41_script.specs.Words.{has_control, same}
+use Rattle.n41_script.specs.Callers.{is_caller, is_kept, is_too_many, place, caller_limit, caller}
 use Rattle.n41_script.specs.Commands.{command_of, stat, ended}
-use Rattle.n41_script.specs.Scripts.{Said, nothing, is_full, with_command, after_caller, after_words, after_line, then_line, after_lines, said_by, IsOf, IsScript}
+use Rattle.n41_script.specs.Scripts.{Said, nothing, is_full, with_command, after_words, then_line, after_lines, IsScript}
 use Rattle.n41_script.specs.declared.fault.LineKind.{LineKind}
 use Rattle.n41_script.specs.declared.script.Script.{Script}
 use Rattle.n41_script.specs.declared.script.ScriptLine.{ScriptLine}

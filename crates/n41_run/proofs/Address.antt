@@ -1,17 +1,16 @@
 -- Ports and addresses are told apart by the first byte, the number and the last colon.
-use Rattle.std.proofs.Common.{◌≡◌, ℕ, zero, suc, ◌<◌, ◌≤◌, ◌^◌, ◌+◌, List, [], ◌∷◌, ◌++◌, length, get_or, take, drop, refl, sym, ap, ◌∙◌, arith, Result, Ok, Err, lit<, ◌↔◌, subst, length-append}
-use Rattle.std.specs.Prelude.{is_ok, IfSome, IfNone, Some, None, MatchOption, ◌==◌, ◌≢◌, true, false, Bool, IsTrue}
+use Rattle.std.proofs.Common.{◌≡◌, ℕ, zero, suc, ◌<◌, ◌^◌, List, [], ◌∷◌, ◌++◌, length, get_or, drop, refl, sym, ap, ◌∙◌, arith, Result, Ok, Err, lit<, subst, length-append}
+use Rattle.std.specs.Prelude.{is_ok, IfSome, IfNone, Some, None, MatchOption, ◌==◌, true}
 use Rattle.std.specs.declared.option.Option.{Option}
 use Rattle.std.specs.Fmt.{decimal}
-use Rattle.std.specs.Str.Parse.{ParsesUnsigned, AllDigits, digits_value, without_leading_plus}
+use Rattle.std.specs.Str.Parse.{ParsesUnsigned, AllDigits, digits_value}
 use Rattle.std.proofs.lemmas.Str.Parse.{IsNumeralModel, numerals_by_value, tells_digits, parse_plain, digit_at}
 use Rattle.std.proofs.lemmas.Fmt.{decimal-digits_value, first_decimal, parse-decimal, digits_decimal, decimal_digit}
 use Rattle.std.specs.Str.{NoCharPasses}
 use Rattle.std.specs.Str.Pattern.{RFindsChar, SplitsAroundMatch}
-use Rattle.std.proofs.lemmas.Str.Pattern.{NoCharPasses-char, starts_char}
+use Rattle.std.proofs.lemmas.Str.Pattern.{NoCharPasses-char}
 use denote.Ref.{Bor}
 use Rattle.std.proofs.Math.Seq.{get_or-append_seam}
-use Rattle.std.proofs.lemmas.List.{take-append-drop}
 use Rattle.n41_run.specs.Words.{IsPort, IsAddress}
 
 own : IsNumeralModel (AllDigits 10) (digits_value 10)

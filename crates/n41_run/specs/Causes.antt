@@ -1,9 +1,7 @@
 -- The statuses of the program and the lines of its faults (own).
-use Rattle.std.specs.Prelude.{◌≡◌, ◌<◌, ◌≤◌, ◌⊎◌, ℕ, List, [], ◌++◌, codes, Result, Ok, Err, Some, None}
+use Rattle.std.specs.Prelude.{◌≡◌, ℕ, List, ◌++◌, codes, Some, None}
 use Rattle.std.specs.declared.option.Option.{Option}
 use Rattle.std.specs.Fmt.{decimal}
-use Rattle.n41_record.specs.declared.fault.GatherFault.{GatherFault}
-use Rattle.n41_record.specs.Streams.{Refused}
 use Rattle.n41_script.specs.declared.fault.LineKind.{LineKind}
 use Rattle.n41_script.specs.declared.fault.LineKind.TheVariants as kind
 use Rattle.n41_run.specs.declared.fault.RunFault.{RunFault}
@@ -17,11 +15,6 @@ number WriteFault = 5
 number (Unreachable rounds) = 6
 number (Breach event) = 7
 number NoMemory = 8
-
--- the status of a call that may fail
-abbrev pub status_of : {T : Type 0} → Result T RunFault → ℕ
-status_of (Ok x) = 0
-status_of (Err fault) = number fault
 
 -- the status of a run with this fault
 abbrev pub status : Option RunFault → ℕ
@@ -62,11 +55,3 @@ IsOfProbe (Some WriteFault) = Unit {0}
 IsOfProbe (Some (Unreachable rounds)) = rounds ≡ 1
 IsOfProbe (Some (Breach event)) = event ≡ 0
 IsOfProbe (Some NoMemory) = Unit {0}
-
--- the first record that was read passes a limit
-abbrev pub PassesAtOnce : List ℕ → Type 0
-PassesAtOnce log = (rest : List ℕ) × (fault : GatherFault) × Refused log [] rest fault
-
--- Why no record came: what was read from failed or ended, the first record passes a limit, or nothing came for 60 turns.
-abbrev pub IsCut : ℕ → ℕ → List ℕ → ℕ → Type 0
-IsCut faults ends log still = (0 < faults) ⊎ ((0 < ends) ⊎ (PassesAtOnce log ⊎ (60 ≤ still)))

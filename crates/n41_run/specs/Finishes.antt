@@ -1,5 +1,5 @@
 -- What a run of the program leaves, by what its words ask for. (own)
-use Rattle.std.specs.Prelude.{◌≡◌, ◌<◌, ◌⊎◌, ℕ, Bool, true, IsTrue, List, [], ◌∷◌, codes, Some, None, IfSome, IfNone, IsSomeAnd, Result, Ok, Err}
+use Rattle.std.specs.Prelude.{◌≡◌, ◌<◌, ◌⊎◌, ℕ, Bool, true, IsTrue, List, [], ◌∷◌, codes, Some, None, IfSome, IfNone, IsSomeAnd, option_map, Result, Ok, Err}
 use Rattle.std.specs.declared.option.Option.{Option}
 use Rattle.n41_record.specs.Fragments.{fragment}
 use Rattle.n41_link.specs.Counts.{Counts, Rose}
@@ -8,17 +8,28 @@ use Rattle.n41_link.specs.Flow.{KnownAs}
 use Rattle.n41_link.specs.Moments.{StandsAt}
 use Rattle.n41_link.specs.declared.connection.Inflow.{Ghosts as InGhosts}
 use Rattle.n41_link.specs.declared.connection.Outflow.{Ghosts as OutGhosts}
+use Rattle.n41_results.specs.declared.messages.Parcel.{Ghosts as ParcelGhosts}
+use Rattle.n41_journal.specs.declared.events.Event.{Event}
+use Rattle.n41_model.specs.declared.words.Setup.{Setup}
+use Rattle.n41_wire.specs.declared.wire.Wire.{Wire}
+use Rattle.n41_desk.specs.Journals.{moments}
+use Rattle.n41_desk.specs.Lines.{AreWires}
+use Rattle.n41_desk.specs.Moments.{AreGiven, CountsDials}
+use Rattle.n41_perform.specs.Performs.{AlwaysOneOut, IsWhole, Outcome, is_read_fault, is_write_fault}
+use Rattle.n41_perform.specs.declared.fault.PerformFault.{PerformFault}
+use Rattle.n41_perform.specs.declared.fault.PerformFault.TheVariants as perform
 use Rattle.n41_lines.specs.declared.side.Side.{Side}
 use Rattle.n41_dump.specs.Causes as dumps
 use Rattle.n41_dump.specs.declared.fault.DumpFault.{DumpFault}
 use Rattle.n41_dump.specs.declared.fault.DumpFault.TheVariants as dump
+use Rattle.n41_probe.specs.Probes.{request, HearsNone, BeginsToAsk, IsProbed, IsPartlyProbed, IsCut}
+use Rattle.n41_probe.specs.declared.fault.ProbeFault.{ProbeFault}
+use Rattle.n41_probe.specs.declared.fault.ProbeFault.TheVariants as probe
+use Rattle.n41_probe.specs.declared.talk.Talk.{Talk}
 use Rattle.n41_script.specs.declared.fault.LineKind.TheVariants as kind
 use Rattle.n41_run.specs.declared.fault.RunFault.{RunFault}
 use Rattle.n41_run.specs.declared.fault.RunFault.TheVariants as run
-use Rattle.n41_run.specs.declared.talk.Talk.{Talk}
-use Rattle.n41_run.specs.Causes.{status, IsOfProbe, IsCut}
-use Rattle.n41_run.specs.Exchange.{request}
-use Rattle.n41_run.specs.Probed.{HearsNone, BeginsToAsk, IsProbed, IsPartlyProbed}
+use Rattle.n41_run.specs.Causes.{status, IsOfProbe}
 use Rattle.n41_run.specs.Words.{IsAddress, IsFirstBad, side_text}
 
 -- ---- what the words ask for
@@ -26,10 +37,21 @@ use Rattle.n41_run.specs.Words.{IsAddress, IsFirstBad, side_text}
 abbrev pub AsksProbe : List (List ℕ) → List ℕ → Type 0
 AsksProbe words address = IsAddress address × (words ≡ codes "probe" ∷ (address ∷ []))
 
+abbrev pub AsksRun : List (List ℕ) → List ℕ → Type 0
+AsksRun words address = IsAddress address × (words ≡ codes "run" ∷ (address ∷ []))
+
 abbrev pub AsksDump : List (List ℕ) → Side → Type 0
 AsksDump words side = words ≡ codes "dump" ∷ (side_text side ∷ [])
 
 -- ---- the faults of the calls that a run stands on
+
+abbrev pub of_perform : PerformFault → RunFault
+of_perform (perform.Script line k) = run.Script line k
+of_perform perform.ReadFault = run.ReadFault
+of_perform perform.WriteFault = run.WriteFault
+of_perform (perform.Unreachable n) = run.Unreachable n
+of_perform (perform.Breach p) = run.Breach p
+of_perform perform.NoMemory = run.NoMemory
 
 -- a stream that is too long is refused as a script's line 0 is
 abbrev pub of_dump : DumpFault → RunFault
@@ -42,7 +64,22 @@ abbrev pub dump_fault : {T : Type 0} → Result T DumpFault → Option RunFault
 dump_fault (Ok x) = None
 dump_fault (Err f) = Some (of_dump f)
 
+-- one round is made, and a probe has event 0 alone
+abbrev pub of_probe : ProbeFault → RunFault
+of_probe probe.Unreachable = run.Unreachable 1
+of_probe probe.Breach = run.Breach 0
+of_probe probe.WriteFault = run.WriteFault
+of_probe probe.NoMemory = run.NoMemory
+
+abbrev pub probe_fault : {T : Type 0} → Result T ProbeFault → Option RunFault
+probe_fault (Ok x) = None
+probe_fault (Err f) = Some (of_probe f)
+
 -- ---- what each command leaves
+
+-- no client was made, and no connection of one
+abbrev pub HasNoClient : {W : Type 0} → List Event → List W → Type 0
+HasNoClient js wires = (js ≡ []) × (wires ≡ [])
 
 -- what a probe leaves: the clock's last moment is the one of its request
 pub record ProbeEnds {I O : Type 0} {g : InGhosts I} {h : OutGhosts O} (fault : Option RunFault) (probed : Option (Talk I O g h)) (given : ℕ → Bool) (ahead : Option (List ℕ)) (last last_new : ℕ) (dialed dialed_new : ℕ) (taken taken_new : Option (List ℕ)) (wrote wrote_new : ℕ) : Type 0 where
@@ -63,6 +100,19 @@ pub record ProbeEnds {I O : Type 0} {g : InGhosts I} {h : OutGhosts O} (fault : 
   pub asked : status fault ≡ 7 → IsSomeAnd probed (λ talk. mouth_log talk.mouth ≡ fragment true (request last_new))
   pub wrong : status fault ≡ 7 → IsSomeAnd probed (λ talk. HearsNone (ear_log talk.ear))
   pub silent : 5 < status fault → taken_new ≡ taken
+
+-- what a script that was run leaves
+pub record RunEnds {I O P : Type 0} {g : InGhosts I} {h : OutGhosts O} {k : ParcelGhosts P} (fault : Option RunFault) (js : List Event) (wires : List (Wire I O P g h k)) (given : ℕ → Bool) (dialed dialed_new : ℕ) (left left_new : Option (List ℕ)) (read read_new : ℕ) (taken taken_new : Option (List ℕ)) (wrote wrote_new : ℕ) : Type 0 where
+  pub cause : Option PerformFault
+  pub fault_is : fault ≡ option_map of_perform cause
+  pub outcome : Outcome cause given left left_new taken taken_new js
+  pub whole : (u : Setup) × IsWhole u js
+  pub one_out : AlwaysOneOut js
+  pub connections : AreWires js wires
+  pub gave : AreGiven given (moments js)
+  pub dials : CountsDials [] js dialed dialed_new
+  pub reads : Counts read read_new (is_read_fault cause)
+  pub writes : Counts wrote wrote_new (is_write_fault cause)
 
 -- what a dump leaves
 pub record DumpEnds (side : Side) (fault : Option RunFault) (left left_new : Option (List ℕ)) (read read_new : ℕ) (taken taken_new : Option (List ℕ)) (wrote wrote_new : ℕ) : Type 0 where

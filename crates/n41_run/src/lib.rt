@@ -2,20 +2,17 @@
 #![tactic(auto)]
 
 mod dumping;
-mod exchange;
 mod fault;
 mod finishing;
-mod line;
 mod probing;
 mod running;
-mod talk;
 mod words;
 
 pub use dumping::dump;
 pub use fault::RunFault;
+pub use n41_probe::Talk;
 pub use probing::probe;
 pub use running::{Finish, run};
-pub use talk::Talk;
 pub use words::{Command, command_of};
 
 #[cfg(test)]

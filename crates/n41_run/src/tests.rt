@@ -1,7 +1,9 @@
 use super::*;
-use n41_link::{Clock, Dialer, Failed, Sink};
+use n41_lines::Side;
+use n41_link::{Clock, Sink};
 use n41_mem::{
-    MemClock, MemDialer, MemInflow, MemOutflow, MemSink, SureListener, SureSink, SureSource,
+    MemClock, MemDialer, MemInflow, MemOutflow, MemSink, MemSource, SureListener, SureSink,
+    SureSource,
 };
 use n41_types::Bytes;
 use std::alloc::Global;
@@ -33,40 +35,22 @@ const DELAY: &[u8] = &[
     0x27, 0x18, 0, 0, 0, 0, 0, 0, 0, 1, 0, 0, 0, 0x2a, 0, 0, 0x27, 0x18,
 ];
 
-// A fragment that is not the last.
-const UNFINISHED: &[u8] = &[0, 0, 0, 4, 1, 2, 3, 4];
-
-// A fragment of more bytes than a record may have.
-const TOO_LONG: &[u8] = &[0xff, 0xff, 0xff, 0xff];
-
 type Ended = Finish<MemDialer, SureListener, MemClock>;
 
-// What the one connection brings, and the numbers of the calls that fail.
-#[derive(Drop)]
-struct Outside<'a> {
-    pieces: &'a [&'a [u8]],
-    dials: &'a [u64],
-    reads: &'a [u64],
-    writes: &'a [u64],
-}
-
+// A run over one connection that brings this, where the dials with these numbers fail.
 fn run_on<R: Threads + Wait + Sync, K: Sink>(
     rt: &R,
     alloc: Global,
     words: &[&str],
-    outside: &Outside<'_>,
+    piece: &[u8],
+    dials: &[u64],
     sink: &mut K,
 ) -> Result<Ended, Fail> {
-    let mut texts = Vec::new(alloc);
-    for word in words {
-        texts.push(String::from_str(alloc, word)?)?;
-    }
+    let texts = texts_of(alloc, words)?;
     let mut brought = Vec::new(alloc);
-    for piece in outside.pieces {
-        brought.push(Bytes::copy_from_slice(alloc, piece)?)?;
-    }
-    let inflow = MemInflow::new(alloc, &brought, outside.reads)?;
-    let outflow = MemOutflow::new(alloc, outside.writes)?;
+    brought.push(Bytes::copy_from_slice(alloc, piece)?)?;
+    let inflow = MemInflow::new(alloc, &brought, &[])?;
+    let outflow = MemOutflow::new(alloc, &[])?;
     let mut links = Vec::new(alloc);
     links.push((inflow, outflow))?;
     let mut source = SureSource::new(alloc, &[])?;
@@ -76,7 +60,7 @@ fn run_on<R: Threads + Wait + Sync, K: Sink>(
         &texts,
         &mut source,
         sink,
-        MemDialer::new(alloc, links, outside.dials)?,
+        MemDialer::new(alloc, links, dials)?,
         SureListener::new(Vec::new(alloc)),
         MemClock::new(alloc, &[5])?,
     ))
@@ -85,85 +69,14 @@ fn run_on<R: Threads + Wait + Sync, K: Sink>(
 #[test]
 fn a_probe_prints_what_the_reply_says(rt: HostRuntime) -> Result<(), Fail> {
     let words = ["probe", "x:2049"];
-    // In one fragment, and in two.
-    let rows: [[&[u8]; 6]; 2] = [
-        [&REPLY[..3], &[], &REPLY[3..7], &[], &[], &REPLY[7..]],
-        [
-            &[0, 0, 0],
-            &[3],
-            &REPLY[4..7],
-            &[],
-            &[0x80, 0, 0, 0x59],
-            &REPLY[7..],
-        ],
-    ];
-    for pieces in rows {
-        let mut sink = SureSink::new(rt.alloc());
-        let outside = Outside {
-            pieces: &pieces,
-            dials: &[],
-            reads: &[],
-            writes: &[],
-        };
-        let ended = run_on(&rt, rt.alloc(), &words, &outside, &mut sink)?;
-        assert_eq!(rt; ended.status, 0);
-        assert_eq!(rt; ended.fault, None);
-        assert_eq!(rt; sink.bytes(), LINE);
-        assert!(rt; ended.clock.gave(5) && !ended.clock.gave(6));
-        let talk = ended.probed.ok_or("there was a connection")?;
-        assert_eq!(rt; talk.mouth.outflow().inner().bytes(), CALL);
-    }
-    Ok(())
-}
-
-// A dialer that knows one address, and counts its dials.
-#[derive(Drop)]
-struct At<'a> {
-    address: &'a str,
-    inner: MemDialer,
-    dials: u64,
-    faults: u64,
-}
-
-impl Dialer for At<'_> {
-    type I = MemInflow;
-
-    type O = MemOutflow;
-
-    ghost faults = { λ d. d.faults };
-
-    fn dial(&mut self, addr: &str) -> Result<(MemInflow, MemOutflow), Failed> {
-        self.dials = self.dials.saturating_add(1);
-        if addr == self.address {
-            if let Ok(link) = self.inner.dial(addr) {
-                return Ok(link);
-            }
-        }
-        self.faults = self.faults.saturating_add(1);
-        Err(Failed)
-    }
-}
-
-// The address and the number of dials are in no clause: a dialer has no words for them.
-#[test]
-fn a_probe_dials_its_address_once(rt: HostRuntime) -> Result<(), Fail> {
-    let mut brought = Vec::new(rt.alloc());
-    brought.push(Bytes::copy_from_slice(rt.alloc(), REPLY)?)?;
-    let inflow = MemInflow::new(rt.alloc(), &brought, &[])?;
-    let outflow = MemOutflow::new(rt.alloc(), &[])?;
-    let mut links = Vec::new(rt.alloc());
-    links.push((inflow, outflow))?;
-    let mut dialer = At {
-        address: "x:2049",
-        inner: MemDialer::new(rt.alloc(), links, &[])?,
-        dials: 0,
-        faults: 0,
-    };
     let mut sink = SureSink::new(rt.alloc());
-    let mut clock = MemClock::new(rt.alloc(), &[5])?;
-    let (status, _, _) = probe(rt.alloc(), "x:2049", &mut sink, &mut dialer, &mut clock);
-    assert_eq!(rt; status, 0);
-    assert_eq!(rt; dialer.dials, 1);
+    let ended = run_on(&rt, rt.alloc(), &words, REPLY, &[], &mut sink)?;
+    assert_eq!(rt; ended.status, 0);
+    assert_eq!(rt; ended.fault, None);
+    assert_eq!(rt; sink.bytes(), LINE);
+    assert!(rt; ended.clock.gave(5) && !ended.clock.gave(6));
+    let talk = ended.probed.ok_or("there was a connection")?;
+    assert_eq!(rt; talk.mouth.outflow().inner().bytes(), CALL);
     Ok(())
 }
 
@@ -172,86 +85,38 @@ fn each_fault_has_its_status(rt: HostRuntime) -> Result<(), Fail> {
     let asked: &[&str] = &["probe", "x:2049"];
     let none: &[u64] = &[];
     let first: &[u64] = &[1];
-    let cut = RunFault::Unreachable(1);
-    for (words, pieces, dials, reads, writes, fault) in [
-        (&asked[..0], [REPLY], none, none, none, RunFault::Words(1)),
-        (&asked[..1], [REPLY], none, none, none, RunFault::Words(2)),
+    for (words, piece, dials, sinks, fault) in [
+        (&asked[..0], REPLY, none, none, RunFault::Words(1)),
+        (&asked[..1], REPLY, none, none, RunFault::Words(2)),
+        (&["probe", "x:0"], REPLY, none, none, RunFault::Words(2)),
         (
-            &["probe", "x:0"],
-            [REPLY],
+            &["probe", "x:1", "x"],
+            REPLY,
             none,
             none,
-            none,
-            RunFault::Words(2),
+            RunFault::Words(3),
         ),
-        (asked, [REPLY], first, none, none, cut),
-        (asked, [REPLY], none, first, none, cut),
-        (asked, [REPLY], none, none, first, cut),
-        (asked, [UNFINISHED], none, none, none, cut),
-        (asked, [TOO_LONG], none, none, none, cut),
-        (asked, [DELAY], none, none, none, RunFault::Breach(0)),
+        (asked, REPLY, none, first, RunFault::WriteFault),
+        (asked, REPLY, first, none, RunFault::Unreachable(1)),
+        (asked, DELAY, none, none, RunFault::Breach(0)),
     ] {
-        let outside = Outside {
-            pieces: &pieces,
-            dials,
-            reads,
-            writes,
-        };
-        let mut sink = SureSink::new(rt.alloc());
-        let ended = run_on(&rt, rt.alloc(), words, &outside, &mut sink)?;
+        let mut sink = MemSink::new(rt.alloc(), sinks)?;
+        let ended = run_on(&rt, rt.alloc(), words, piece, dials, &mut sink)?;
         assert_eq!(rt; ended.status, fault.status());
         assert_eq!(rt; ended.fault, Some(fault));
-        assert!(rt; sink.bytes().is_empty());
+        assert!(rt; sink.inner().bytes().is_empty());
     }
     Ok(())
 }
 
 #[test]
-fn sixty_quiets_or_a_failing_sink_end_a_probe(rt: HostRuntime) -> Result<(), Fail> {
-    let words = ["probe", "x:2049"];
-    let quiet: &[u8] = &[];
-    let mut pieces = [quiet; 61];
-    for (patient, status) in [(59, 0), (60, 6)] {
-        pieces[patient] = REPLY;
-        let outside = Outside {
-            pieces: &pieces,
-            dials: &[],
-            reads: &[],
-            writes: &[],
-        };
-        let mut sink = SureSink::new(rt.alloc());
-        let ended = run_on(&rt, rt.alloc(), &words, &outside, &mut sink)?;
-        assert_eq!(rt; ended.status, status);
-        pieces[patient] = quiet;
-    }
-    let outside = Outside {
-        pieces: &[REPLY],
-        dials: &[],
-        reads: &[],
-        writes: &[],
-    };
-    let mut sink = MemSink::new(rt.alloc(), &[1])?;
-    let ended = run_on(&rt, rt.alloc(), &words, &outside, &mut sink)?;
-    assert_eq!(rt; ended.fault, Some(RunFault::WriteFault));
-    assert!(rt; sink.inner().bytes().is_empty());
-    Ok(())
-}
-
-#[test]
-fn a_reply_that_is_cut_is_never_printed(rt: HostRuntime) -> Result<(), Fail> {
-    for len in 0..REPLY.len() {
-        let outside = Outside {
-            pieces: &[&REPLY[..len]],
-            dials: &[],
-            reads: &[],
-            writes: &[],
-        };
-        let mut sink = SureSink::new(rt.alloc());
-        let words = ["probe", "x:2049"];
-        let ended = run_on(&rt, rt.alloc(), &words, &outside, &mut sink)?;
-        assert_eq!(rt; ended.status, 6);
-        assert!(rt; sink.bytes().is_empty());
-    }
+fn a_failing_source_is_told(rt: HostRuntime) -> Result<(), Fail> {
+    let alloc = rt.alloc();
+    let mut source = MemSource::new(alloc, CALL, &[1])?;
+    let mut sink = SureSink::new(alloc);
+    let (status, fault) = dump(alloc, Side::Client, &mut source, &mut sink);
+    assert_eq!(rt; status, 4);
+    assert_eq!(rt; fault, Some(RunFault::ReadFault));
     Ok(())
 }
 
@@ -295,11 +160,11 @@ fn texts_of(alloc: Global, words: &[&str]) -> Result<Vec<String>, Fail> {
 }
 
 #[test]
-fn streams_are_dumped(rt: HostRuntime) -> Result<(), Fail> {
+fn streams_are_dumped_and_an_empty_script_asks_nothing(rt: HostRuntime) -> Result<(), Fail> {
     let alloc = rt.alloc();
     // A header that claims four bytes, of which none is a message, and then a rest.
     let bad: &[u8] = &[0x80, 0, 0, 4, 0, 0, 0, 9, 0x80];
-    let rows: [([&str; 2], &[u8], u8, &[u8]); 4] = [
+    let rows: [([&str; 2], &[u8], u8, &[u8]); 6] = [
         (
             ["dump", "client"],
             CALL,
@@ -314,6 +179,8 @@ fn streams_are_dumped(rt: HostRuntime) -> Result<(), Fail> {
         ),
         (["dump", "client"], bad, 0, b"1 bad 00000009\nrest 1\n"),
         (["dump", "clients"], CALL, 2, b""),
+        (["run", "x:2049"], b"# nothing\n", 0, b""),
+        (["run", "x:2049"], b"a stat /\nb look /\n", 3, b""),
     ];
     for (words, given, status, text) in rows {
         let mut sink = SureSink::new(alloc);

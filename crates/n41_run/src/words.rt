@@ -10,6 +10,8 @@ use n41_lines::Side;
 pub enum Command<'a> {
     /// One exchange with the server at this address.
     Probe(&'a str),
+    /// The script on the input, run against the server at this address.
+    Run(&'a str),
     /// A line for each record of the input, which this side of a connection wrote.
     Dump(Side),
 }
@@ -18,6 +20,7 @@ pub enum Command<'a> {
 #[derive(Clone, Copy, PartialEq, Eq)]
 pub(crate) enum Verb {
     Probe,
+    Run,
     Dump,
 }
 
@@ -27,6 +30,7 @@ fn verb_of(word: &str) -> Option<Verb>
 {
     match word {
         "probe" => Some(Verb::Probe),
+        "run" => Some(Verb::Run),
         "dump" => Some(Verb::Dump),
         _ => None,
     }
@@ -78,6 +82,7 @@ fn command_with(verb: Verb, word: &str) -> Option<Command<'_>>
 {
     match verb {
         Verb::Probe if is_address(word) => Some(Command::Probe(word)),
+        Verb::Run if is_address(word) => Some(Command::Run(word)),
         Verb::Dump => match side_of(word) {
             Some(side) => Some(Command::Dump(side)),
             None => None,

@@ -36,3 +36,9 @@ returns-in-Err-clause-others g c = λ d n. (left_maybe c.args.desk.now.core c.po
 
 pub returns-in-Err-clause-posts : goal.returns-in-Err-clause-posts
 returns-in-Err-clause-posts g c = posts_noted c.args.desk.now.core c.post.new.self.core c.in-Err.ensures.err
+
+pub returns-in-Ok-clause-keeps : goal.returns-in-Ok-clause-keeps
+returns-in-Ok-clause-keeps g c = c.post.ensures.keeps
+
+pub returns-in-Err-clause-keeps : goal.returns-in-Err-clause-keeps
+returns-in-Err-clause-keeps g c = c.post.ensures.keeps

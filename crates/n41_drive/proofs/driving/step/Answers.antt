@@ -24,3 +24,9 @@ returns-clause-counts g c =
     λ js n h.
     counts_then js c.give.new.desk.core.events c.turn.new.self.core.events n _ _
     (counts_on js c.args.desk.now.core.events c.give.new.desk.core.events n _ _ c.give.ensures.failures (ap g.D.Dialer.faults c.give.ensures.dialer) h) c.turn.ensures.counts
+
+pub returns-in_err-give-clause-keeps : goal.returns-in_err-give-clause-keeps
+returns-in_err-give-clause-keeps g c = c.give.ensures.keeps
+
+pub returns-clause-keeps : goal.returns-clause-keeps
+returns-clause-keeps g c = λ m h. c.turn.ensures.keeps m (c.give.ensures.keeps m h)

@@ -19,6 +19,13 @@ loop-preserved g c =
         works = s.works;
         setup = s.setup ∙ i.setup;
         counts = λ js n h. s.counts js n (i.counts js n h);
+        keeps = λ m h. s.keeps m (i.keeps m h);
         tells = s.tells ∙ i.tells;
       },
     )
+
+pub returns-in_err-step-clause-keeps : goal.returns-in_err-step-clause-keeps
+returns-in_err-step-clause-keeps g c = λ m h. c.step.ensures.keeps m (c.loop.invariant.2.keeps m h)
+
+pub returns-in-Idle-clause-keeps : goal.returns-in-Idle-clause-keeps
+returns-in-Idle-clause-keeps g c = λ m h. c.step.ensures.keeps m (c.loop.invariant.2.keeps m h)

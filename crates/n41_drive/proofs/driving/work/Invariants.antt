@@ -1,7 +1,7 @@
 use Rattle.std.proofs.Common.{◌≡◌, ℕ, List, length}
 use Rattle.n41_journal.specs.declared.events.Event.{Event}
 use Rattle.n41_desk.specs.Desks.{Holds}
-use Rattle.n41_desk.specs.Moments.{CountsDials}
+use Rattle.n41_desk.specs.Moments.{CountsDials, KeepsGiven}
 use Rattle.n41_drive.specs.Drives.{Works}
 use Rattle.n41_drive.proofs.driving.work.Given as goal
 
@@ -13,5 +13,6 @@ invariant-loop g l =
       works : Works l.desk.core l.lines l.places;
       setup : l.desk.core.setup ≡ l.initial.desk.core.setup;
       counts : (js : List Event) (n : ℕ) → CountsDials js l.initial.desk.core.events n (g.D.Dialer.faults l.initial.desk.dialer) → CountsDials js l.desk.core.events n (g.D.Dialer.faults l.desk.dialer);
+      keeps : KeepsGiven (g.C.Clock.given l.initial.desk.clock) (g.C.Clock.given l.desk.clock);
       tells : g.C.Clock.tells l.desk.clock ≡ g.C.Clock.tells l.initial.desk.clock;
     }

@@ -1,6 +1,6 @@
-use Rattle.std.proofs.Common.{◌≡◌, ◌∷◌, ◌∙◌, [], List, ℕ, map, string_bytes, ap, sym, arith, length, true, false}
+use Rattle.std.proofs.Common.{◌≡◌, ◌∷◌, ◌∙◌, [], map, string_bytes, ap, sym, arith}
 use Rattle.std.proofs.lemmas.Bool.Decides.{nat_tests}
-use Rattle.n41_run.specs.Words.{IsOperand, IsVerb, verb_text}
+use Rattle.n41_run.specs.Words.{IsOperand, verb_text}
 use Rattle.n41_run.proofs.Forms.{no_words, other_first, no_operand, bad_operand, bad_at, empty_is, joined, two_texts, more_bad, taken_fits, same_fits}
 use Rattle.n41_run.proofs.words.command_of.Goals as goal
 

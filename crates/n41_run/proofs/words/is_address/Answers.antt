@@ -1,4 +1,4 @@
-use Rattle.std.proofs.Common.{◌≡◌, ◌<◌, length, arith, false, true}
+use Rattle.std.proofs.Common.{◌<◌, length, arith}
 use Rattle.std.proofs.lemmas.Bool.Decides.{nat_tests}
 use Rattle.n41_run.proofs.Address.{address_from, address_parts, no_address}
 use Rattle.n41_run.proofs.words.is_address.Goals as goal

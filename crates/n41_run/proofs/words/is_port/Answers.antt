@@ -1,4 +1,4 @@
-use Rattle.std.proofs.Common.{◌≡◌, ◌<◌, get_or, arith, lit<, false, true}
+use Rattle.std.proofs.Common.{◌≡◌, ◌<◌, get_or, arith, lit<}
 use Rattle.std.proofs.lemmas.Str.Pattern.{starts_char}
 use Rattle.n41_run.proofs.Address.{port_of_parsed, parsed_port, port_begins}
 use Rattle.n41_run.proofs.words.is_port.Goals as goal

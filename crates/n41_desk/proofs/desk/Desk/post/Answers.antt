@@ -42,3 +42,9 @@ pub returns-in-Err-clause-holds : goal.returns-in-Err-clause-holds
 returns-in-Err-clause-holds g c =
     let h = c.requires.holds in
     record { owner = rw c.in-Err.ensures.err h.owner; lines = rw c.in-Err.ensures.err h.lines; all_given = c.note.ensures.given }
+
+pub returns-in-Ok-clause-keeps : goal.returns-in-Ok-clause-keeps
+returns-in-Ok-clause-keeps g c = c.note.ensures.keeps
+
+pub returns-in-Err-clause-keeps : goal.returns-in-Err-clause-keeps
+returns-in-Err-clause-keeps g c = c.note.ensures.keeps

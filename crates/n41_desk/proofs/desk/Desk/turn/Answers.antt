@@ -1,5 +1,5 @@
-use Rattle.std.proofs.Common.{◌≡◌, inl}
-use Rattle.std.specs.Prelude.{Result, Ok, Err, OnErr}
+use Rattle.std.proofs.Common.{◌≡◌, ℕ, Bool, inl, subst, sym}
+use Rattle.std.specs.Prelude.{Result, Ok, Err, OnErr, IsTrue}
 use Rattle.n41_core.specs.State.{State}
 use Rattle.n41_desk.specs.Lines.{StaysQuiet}
 use Rattle.n41_desk.specs.Steps.{IsNoted}
@@ -63,3 +63,9 @@ returns-clause-holds g c =
       lines = a.lines;
       all_given = acted_given c.act.result q (g.C.Clock.given c.note.new.clock) (g.C.Clock.given c.act.new.clock) c.note.new.core c.act.new.core c.wants-want.result a.given a.acts a.err c.note.ensures.given;
     }
+
+pub returns-in_err-note-clause-keeps : goal.returns-in_err-note-clause-keeps
+returns-in_err-note-clause-keeps g c = c.note.ensures.keeps
+
+pub returns-clause-keeps : goal.returns-clause-keeps
+returns-clause-keeps g c = λ m h. subst (λ (f : ℕ → Bool). IsTrue (f m)) (sym c.act.ensures.given) (c.note.ensures.keeps m h)
