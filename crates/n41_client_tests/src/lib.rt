@@ -1,0 +1,19 @@
+//! Tests of the client over connections in memory: whole runs of scripts, with all that a server or a link may do to them.
+#![tactic(auto)]
+
+#[cfg(test)]
+mod answers;
+#[cfg(test)]
+mod breaks;
+#[cfg(test)]
+mod callers;
+#[cfg(test)]
+mod journals;
+#[cfg(test)]
+mod messages;
+#[cfg(test)]
+mod posts;
+#[cfg(test)]
+mod refusals;
+#[cfg(test)]
+mod runs;

@@ -1,0 +1,130 @@
+// The messages of a server, written by hand (RFC 5531, section 9; RFC 8881, section 18).
+
+use n41_types::{Bytes, NoMemory};
+use n41_xdr::Writer;
+use std::alloc::{AllocError, Global};
+
+/// A word of the name of the one session, of which it has four.
+const S: u32 = 0x0707_0707;
+
+/// The name `srv`, with its fill.
+const SRV: u32 = 0x7372_7600;
+
+/// What a server answers. A request on a slot is named by its slot and its turn there.
+#[derive(Clone, Copy)]
+pub(crate) enum Told {
+    Named,
+    /// A session of so many slots.
+    Made(u32),
+    Bound,
+    Complete(u32, u32),
+    /// The lease lasts 90 seconds.
+    Lease(u32, u32),
+    /// The root is an empty directory with this fileid and mode 0755.
+    Root(u32, u32, u32),
+    /// SEQUENCE is refused with this status.
+    Refused(u32),
+    /// The attributes of the root are refused with this status.
+    NoRoot(u32, u32, u32),
+    /// So many results, of which none follows.
+    Counted(u32),
+    SessionGone,
+    ClientGone,
+}
+
+/// A reply: the xid of its request, and what is told.
+pub(crate) type Says = (u32, Told);
+
+fn put_words(w: &mut Writer, words: &[u32]) -> Result<(), NoMemory> {
+    for word in words {
+        w.put_u32(*word)?;
+    }
+    Ok(())
+}
+
+/// SEQUENCE and then these results: a status, an empty tag, the count of the results, and of SEQUENCE its session, turn and slot, the highest
+/// slot and the target, which are above those that the session has, and no flags.
+fn put_on(
+    w: &mut Writer,
+    slot: u32,
+    turn: u32,
+    status: u32,
+    count: u32,
+    more: &[u32],
+) -> Result<(), NoMemory> {
+    put_words(
+        w,
+        &[status, 0, count, 53, 0, S, S, S, S, turn, slot, 63, 63, 0],
+    )?;
+    put_words(w, more)
+}
+
+/// The result of each operation begins with its number and its status. That of EXCHANGE_ID is client 9, sequence 1, no flags, no protection, and
+/// the names of the server and its scope; of CREATE_SESSION the session, sequence 1, no flags, and the sizes of both directions; of
+/// BIND_CONN_TO_SESSION the session, in the fore direction, without RDMA. GETATTR tells the lease time, attribute 10, or type, size, fileid
+/// and mode, attributes 1, 4, 20 and 33, behind PUTROOTFH.
+fn put_told(w: &mut Writer, told: Told) -> Result<(), NoMemory> {
+    match told {
+        Told::Named => put_words(w, &[0, 0, 1, 42, 0, 0, 9, 1, 0, 0, 0, 0, 3, SRV, 3, SRV, 0]),
+        Told::Made(slots) => {
+            let sizes = [0, 65536, 65536, 4096, 8, slots, 0];
+            put_words(w, &[0, 0, 1, 43, 0, S, S, S, S, 1, 0])?;
+            put_words(w, &sizes)?;
+            put_words(w, &sizes)
+        }
+        Told::Bound => put_words(w, &[0, 0, 1, 41, 0, S, S, S, S, 1, 0]),
+        Told::Complete(slot, turn) => put_on(w, slot, turn, 0, 2, &[58, 0]),
+        Told::Lease(slot, turn) => put_on(w, slot, turn, 0, 3, &[24, 0, 9, 0, 1, 0x400, 4, 90]),
+        Told::Root(slot, turn, fileid) => {
+            let attributes = [0x0010_0012, 2, 24, 2, 0, 0, 0, fileid, 0o755];
+            put_on(w, slot, turn, 0, 3, &[24, 0, 9, 0, 2])?;
+            put_words(w, &attributes)
+        }
+        Told::Refused(status) => put_words(w, &[status, 0, 1, 53, status]),
+        Told::NoRoot(slot, turn, status) => put_on(w, slot, turn, status, 3, &[24, 0, 9, status]),
+        Told::Counted(count) => put_words(w, &[0, 0, count]),
+        Told::SessionGone => put_words(w, &[0, 0, 1, 44, 0]),
+        Told::ClientGone => put_words(w, &[0, 0, 1, 57, 0]),
+    }
+}
+
+/// A reply, in one fragment with its mark.
+pub(crate) fn record(alloc: Global, says: Says) -> Result<Bytes, NoMemory> {
+    let (xid, told) = says;
+    let mut body = Writer::new(alloc);
+    // A reply to a call that was run, with the verifier AUTH_NONE.
+    put_words(&mut body, &[xid, 1, 0, 0, 0, 0])?;
+    put_told(&mut body, told)?;
+    let Ok(len) = u32::try_from(body.len()) else {
+        return Err(AllocError);
+    };
+    let mut w = Writer::new(alloc);
+    w.put_u32(0x8000_0000 | len)?;
+    w.put_bytes(body.as_slice())?;
+    Ok(Bytes::from_vec(w.into_bytes())?)
+}
+
+/// So many bytes of a reply, or all of them where it has no more.
+pub(crate) fn part(alloc: Global, reply: &Bytes, len: usize) -> Result<Bytes, NoMemory> {
+    let len = len.min(reply.len());
+    Bytes::copy_from_slice(alloc, &reply.as_slice()[..len])
+}
+
+/// The replies, one a piece.
+pub(crate) fn records(alloc: Global, replies: &[Says]) -> Result<Vec<Bytes>, NoMemory> {
+    let mut pieces = Vec::new(alloc);
+    for says in replies {
+        pieces.push(record(alloc, *says)?)?;
+    }
+    Ok(pieces)
+}
+
+/// The replies, all in one piece.
+pub(crate) fn joined(alloc: Global, replies: &[Says]) -> Result<Bytes, NoMemory> {
+    let mut bytes = Vec::new(alloc);
+    for says in replies {
+        let reply = record(alloc, *says)?;
+        bytes.extend_from_slice(reply.as_slice())?;
+    }
+    Ok(Bytes::from_vec(bytes)?)
+}
