@@ -263,6 +263,8 @@ try_dump
 try_stat
 try_many
 try_nobody
+start nowhere /dev/null run
+expect nowhere 2 "" "bad word at 2"
 answered_by answer answer
 expect answer 0 "$line" ""
 answered_by pieces pieces
