@@ -147,7 +147,12 @@ fn operations_are_refused_where_they_are_cut(rt: HostRuntime) {
 }
 
 /// The bytes with other bits at a place.
-pub(crate) fn with_other(alloc: Global, bytes: &[u8], place: usize, bits: u8) -> Result<Vec<u8>, AllocError>
+pub(crate) fn with_other(
+    alloc: Global,
+    bytes: &[u8],
+    place: usize,
+    bits: u8,
+) -> Result<Vec<u8>, AllocError>
     requires { place < length bytes.now }
 {
     let mut all = Vec::new(alloc);

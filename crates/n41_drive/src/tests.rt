@@ -82,7 +82,10 @@ fn desk(alloc: Global, replies: usize) -> Result<Look, NoMemory>
 
 // The size that was told of the root, or the rounds after which no server was reached.
 fn told(desk: &Look) -> u64 {
-    match desk.answer_of(Ticket { caller: 0, number: 1 }) {
+    match desk.answer_of(Ticket {
+        caller: 0,
+        number: 1,
+    }) {
         Some((_, Answer::Done(Value::Stat { size, .. }))) => *size,
         Some((_, Answer::Unreachable(rounds))) => *rounds,
         _ => 0,

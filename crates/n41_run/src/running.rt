@@ -70,7 +70,9 @@ where
 {
     match command_of(words) {
         Ok(Command::Probe(addr)) => finish_probe(alloc, addr, sink, dialer, house, clock),
-        Ok(Command::Run(addr)) => finish_script(rt, alloc, addr, source, sink, dialer, house, clock),
+        Ok(Command::Run(addr)) => finish_script(
+            rt, alloc, addr, source, sink, dialer, house, clock,
+        ),
         Ok(Command::Dump(side)) => finish_dump(alloc, side, source, sink, dialer, house, clock),
         Err(place) => refuse(alloc, place, dialer, house, clock),
     }

@@ -10,9 +10,11 @@ loop-place-preserved c =
     ∙ c.loop-place.invariant
 
 pub returns-then-lines-place-clause-some : goal.returns-then-lines-place-clause-some
-returns-then-lines-place-clause-some c =
-    (c.index-lines-place.result, record {
-      there = slice_get_read c.args.lines.now (length c.args.lines.now) c.loop-place.place c.index-lines-place.result refl c.loop-place-test.true c.index-lines-place.is;
-      caller = ap (λ (x : ScriptLine). x.caller) c.index-lines-place.is ∙ c.if-lines-place.true;
-      first = c.loop-place.invariant;
-    })
+returns-then-lines-place-clause-some c = (
+  c.index-lines-place.result,
+  record {
+    there = slice_get_read c.args.lines.now (length c.args.lines.now) c.loop-place.place c.index-lines-place.result refl c.loop-place-test.true c.index-lines-place.is;
+    caller = ap (λ (x : ScriptLine). x.caller) c.index-lines-place.is ∙ c.if-lines-place.true;
+    first = c.loop-place.invariant;
+  },
+)
