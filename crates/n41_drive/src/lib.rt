@@ -3,7 +3,5 @@
 
 mod driving;
 mod next;
-#[cfg(test)]
-mod tests;
 
 pub use driving::drive;
