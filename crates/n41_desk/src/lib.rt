@@ -6,8 +6,6 @@ mod desk;
 mod hearing;
 mod lines;
 mod saying;
-#[cfg(test)]
-mod tests;
 mod turning;
 mod turns;
 
