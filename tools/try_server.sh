@@ -238,6 +238,25 @@ try_many() {
     unmarred many
 }
 
+# Directories are made, get other names and go, while every fourth record of the server is lost with its connection. A change that was made twice would be refused. Every third
+# would be too many: a walk whose reply was lost takes three records on the next connection, one that binds it, one that says that no reply was kept, and its new answer.
+try_changes() {
+    relay changes 4
+    printf '%s\n' "a mkdir /d" "a mkdir /d/e" "a rename /d/e /f" "a stat /f" "a remove /d" "a stat /d" "a mkdir /f/1" "a mkdir /f/1/2" "a stat /f/1/2" >"$state/changes.script"
+    listen changes
+    start changes "$state/changes.script" run "127.0.0.1:$(cat "$state/changes.port")"
+    [ "$(cat "$state/changes.status")" = 0 ] && [ "$(cat "$state/changes.wire/cuts")" -ge 6 ] &&
+        [ "$(sed -E 's/(type 2) size .* mode/\1 mode/' "$state/changes.out")" = "$(printf '%s\n' "1 a made" "2 a made" "3 a renamed" "4 a stat type 2 mode 0755" "5 a removed" "6 a refused 2" "7 a made" "8 a made" "9 a stat type 2 mode 0755")" ]
+    report "changes through $(cat "$state/changes.wire/cuts" 2>/dev/null) cuts" $? \
+        "status $(cat "$state/changes.status"), printed '$(cat "$state/changes.out")', fault '$(cat "$state/changes.err")'"
+    hush
+    unmarred changes
+    printf '%s\n' "b stat /d" "b stat /f" "b stat /f/e" "b stat /f/1/2" "b remove /f" >"$state/changed.script"
+    start changed "$state/changed.script" run "127.0.0.1:$server_port"
+    [ "$(sed -E 's/(type 2) size .* mode/\1 mode/' "$state/changed.out")" = "$(printf '%s\n' "1 b refused 2" "2 b stat type 2 mode 0755" "3 b refused 2" "4 b stat type 2 mode 0755" "5 b refused 66")" ]
+    report "the server's tree shows each change once" $? "printed '$(cat "$state/changed.out")'"
+}
+
 try_nobody() {
     local begin end
     begin=$(date +%s%N)
@@ -262,6 +281,7 @@ try_server
 try_dump
 try_stat
 try_many
+try_changes
 try_nobody
 start nowhere /dev/null run
 expect nowhere 2 "" "bad word at 2"

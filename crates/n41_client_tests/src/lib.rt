@@ -17,3 +17,5 @@ mod posts;
 mod refusals;
 #[cfg(test)]
 mod runs;
+#[cfg(test)]
+mod walks;

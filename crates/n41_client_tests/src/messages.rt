@@ -10,6 +10,22 @@ const S: u32 = 0x0707_0707;
 /// The name `srv`, with its fill.
 const SRV: u32 = 0x7372_7600;
 
+/// Where the operations of a request begin.
+#[derive(Clone, Copy)]
+pub(crate) enum From {
+    Root,
+    /// At the filehandle that every walk comes to.
+    Handle,
+}
+
+/// The number of the operation by which a request begins there.
+fn put_number(from: From) -> u32 {
+    match from {
+        From::Root => 24,
+        From::Handle => 22,
+    }
+}
+
 /// What a server answers. A request on a slot is named by its slot and its turn there.
 #[derive(Clone, Copy)]
 pub(crate) enum Told {
@@ -26,6 +42,17 @@ pub(crate) enum Told {
     Refused(u32),
     /// The attributes of the root are refused with this status.
     NoRoot(u32, u32, u32),
+    /// A walk of so many names, from the root or from a filehandle, came to a file.
+    Walked(u32, u32, From, u32),
+    /// A walk of one name from the root found nothing.
+    Lost(u32, u32),
+    /// The file that was reached is an empty directory with this fileid and mode 0755.
+    Reached(u32, u32, u32),
+    /// A directory was made.
+    DirectoryMade(u32, u32, From),
+    Removed(u32, u32, From),
+    /// A name in the root got another.
+    Renamed(u32, u32),
     /// So many results, of which none follows.
     Counted(u32),
     SessionGone,
@@ -34,6 +61,11 @@ pub(crate) enum Told {
 
 /// A reply: the xid of its request, and what is told.
 pub(crate) type Says = (u32, Told);
+
+/// The attributes type, size, fileid and mode, by which a directory is told.
+fn directory(fileid: u32) -> [u32; 9] {
+    [0x0010_0012, 2, 24, 2, 0, 0, 0, fileid, 0o755]
+}
 
 fn put_words(w: &mut Writer, words: &[u32]) -> Result<(), NoMemory> {
     for word in words {
@@ -59,6 +91,44 @@ fn put_on(
     put_words(w, more)
 }
 
+/// What a walk comes to: LOOKUP is operation 15, and GETFH, operation 10, gives a filehandle of four bytes.
+fn put_walk(w: &mut Writer, told: Told) -> Result<(), NoMemory> {
+    match told {
+        Told::Walked(slot, turn, from, names) => {
+            put_on(w, slot, turn, 0, names.min(8) + 3, &[put_number(from), 0])?;
+            for _ in 0..names.min(8) {
+                put_words(w, &[15, 0])?;
+            }
+            put_words(w, &[10, 0, 4, S])
+        }
+        Told::Lost(slot, turn) => put_on(w, slot, turn, 2, 3, &[24, 0, 15, 2]),
+        _ => Ok(()),
+    }
+}
+
+/// What a change answers. CREATE is operation 6, REMOVE 28, SAVEFH 32 and RENAME 29. What changed in a directory is told by a flag and its
+/// numbers before and after; CREATE tells besides that no attributes were set.
+fn put_change(w: &mut Writer, told: Told) -> Result<(), NoMemory> {
+    let change = [0, 0, 1, 0, 2];
+    match told {
+        Told::DirectoryMade(slot, turn, from) => {
+            put_on(w, slot, turn, 0, 3, &[put_number(from), 0, 6, 0])?;
+            put_words(w, &change)?;
+            put_words(w, &[0])
+        }
+        Told::Removed(slot, turn, from) => {
+            put_on(w, slot, turn, 0, 3, &[put_number(from), 0, 28, 0])?;
+            put_words(w, &change)
+        }
+        Told::Renamed(slot, turn) => {
+            put_on(w, slot, turn, 0, 5, &[24, 0, 32, 0, 24, 0, 29, 0])?;
+            put_words(w, &change)?;
+            put_words(w, &change)
+        }
+        _ => Ok(()),
+    }
+}
+
 /// The result of each operation begins with its number and its status. That of EXCHANGE_ID is client 9, sequence 1, no flags, no protection, and
 /// the names of the server and its scope; of CREATE_SESSION the session, sequence 1, no flags, and the sizes of both directions; of
 /// BIND_CONN_TO_SESSION the session, in the fore direction, without RDMA. GETATTR tells the lease time, attribute 10, or type, size, fileid
@@ -76,10 +146,15 @@ fn put_told(w: &mut Writer, told: Told) -> Result<(), NoMemory> {
         Told::Complete(slot, turn) => put_on(w, slot, turn, 0, 2, &[58, 0]),
         Told::Lease(slot, turn) => put_on(w, slot, turn, 0, 3, &[24, 0, 9, 0, 1, 0x400, 4, 90]),
         Told::Root(slot, turn, fileid) => {
-            let attributes = [0x0010_0012, 2, 24, 2, 0, 0, 0, fileid, 0o755];
             put_on(w, slot, turn, 0, 3, &[24, 0, 9, 0, 2])?;
-            put_words(w, &attributes)
+            put_words(w, &directory(fileid))
         }
+        Told::Reached(slot, turn, fileid) => {
+            put_on(w, slot, turn, 0, 3, &[22, 0, 9, 0, 2])?;
+            put_words(w, &directory(fileid))
+        }
+        Told::Walked(..) | Told::Lost(..) => put_walk(w, told),
+        Told::DirectoryMade(..) | Told::Removed(..) | Told::Renamed(..) => put_change(w, told),
         Told::Refused(status) => put_words(w, &[status, 0, 1, 53, status]),
         Told::NoRoot(slot, turn, status) => put_on(w, slot, turn, status, 3, &[24, 0, 9, status]),
         Told::Counted(count) => put_words(w, &[0, 0, count]),

@@ -109,14 +109,14 @@ plan_again (plan.CreateSession c s) fits = session_again c s
 plan_again (plan.Bind s) fits = refl
 plan_again (plan.DestroySession s) fits = refl
 plan_again (plan.DestroyClient c) fits = refl
-plan_again (plan.Walk from names) fits = walk_again from names fits
+plan_again (plan.Walk from names) fits = walk_again from names fits.0
 plan_again (plan.Stat Root) fits = refl
 plan_again (plan.Stat (At fh)) fits = refl
 plan_again plan.LeaseTime fits = refl
 plan_again (plan.Read f s o n) fits = refl
 plan_again (plan.List a c v m) fits = list_again a c v m
-plan_again (plan.TestLock f kind.Read s o) fits = ap (λ (e : Extent). let p : Option Plan = Some (plan.TestLock f kind.Read e o) in p) (span_again s fits)
-plan_again (plan.TestLock f kind.Write s o) fits = ap (λ (e : Extent). let p : Option Plan = Some (plan.TestLock f kind.Write e o) in p) (span_again s fits)
+plan_again (plan.TestLock f kind.Read s o) fits = ap (λ (e : Extent). let p : Option Plan = Some (plan.TestLock f kind.Read e o) in p) (span_again s fits.1)
+plan_again (plan.TestLock f kind.Write s o) fits = ap (λ (e : Extent). let p : Option Plan = Some (plan.TestLock f kind.Write e o) in p) (span_again s fits.1)
 plan_again (plan.Test s) fits = refl
 plan_again plan.Renew fits = refl
 plan_again (plan.OpenAt f mode.Read o (right.Previous n)) fits = refl
@@ -132,14 +132,14 @@ plan_again (plan.Downgrade f s mode.Read) fits = refl
 plan_again (plan.Downgrade f s mode.Write) fits = refl
 plan_again (plan.Downgrade f s mode.Both) fits = refl
 plan_again (plan.CloseState f s) fits = refl
-plan_again (plan.LockBytes f k s r l) fits = lock_again f k s r l fits
-plan_again (plan.UnlockBytes f s t) fits = ap (λ (e : Extent). let p : Option Plan = Some (plan.UnlockBytes f e t) in p) (span_again s fits)
+plan_again (plan.LockBytes f k s r l) fits = lock_again f k s r l fits.1
+plan_again (plan.UnlockBytes f s t) fits = ap (λ (e : Extent). let p : Option Plan = Some (plan.UnlockBytes f e t) in p) (span_again s fits.1)
 plan_again (plan.ReturnDeleg f s) fits = refl
 plan_again (plan.Free s) fits = refl
 plan_again plan.Complete fits = refl
-plan_again (plan.CreateFile d n g o) fits = create_again d n g o fits
+plan_again (plan.CreateFile d n g o) fits = create_again d n g o fits.0
 plan_again (plan.WriteBytes f s o b) fits = refl
 plan_again (plan.Resize f s n) fits = resize_again f s n
-plan_again (plan.MakeDir d n) fits = make_dir_again d n fits
-plan_again (plan.Remove d n) fits = remove_again d n fits
-plan_again (plan.Rename from old to new) fits = rename_again from old to new fits.0 fits.1
+plan_again (plan.MakeDir d n) fits = make_dir_again d n fits.0
+plan_again (plan.Remove d n) fits = remove_again d n fits.0
+plan_again (plan.Rename from old to new) fits = rename_again from old to new fits.0.0 fits.0.1

@@ -1,25 +1,20 @@
 -- The answer that a command has.
-use Rattle.std.proofs.Common.{◌≡◌, ◌⊎◌, inl, inr, ℕ, ◌<◌, ◌≤◌, Bool, true, false, List, Option, Some, None, IsSome, slice_get, refl, sym, ◌∙◌, ap, subst, arith}
+use Rattle.std.proofs.Common.{◌≡◌, inl, inr, ℕ, ◌<◌, true, false, Option, Some, None, IsSome, slice_get, refl, sym, ◌∙◌, ap, subst, arith}
 use Rattle.std.specs.Prelude.{is_none}
 use Rattle.n41_types.specs.declared.commands.Answer.{Answer}
 use Rattle.n41_types.specs.declared.commands.Answer.TheVariants as says
 use Rattle.n41_types.specs.declared.commands.Command.{Command}
-use Rattle.n41_types.specs.declared.commands.Value.{Value}
-use Rattle.n41_types.specs.declared.commands.Value.TheVariants as value
-use Rattle.n41_journal.specs.declared.events.Event.{Event}
-use Rattle.n41_model.specs.declared.words.Setup.{Setup}
-use Rattle.n41_model.specs.Answers.{HasCause, breach_at, round_limit}
-use Rattle.n41_model.specs.Calls.{command, number, call}
-use Rattle.n41_model.specs.Kept.{Kept, MayAnswer}
+use Rattle.n41_model.specs.Answers.{breach_at, round_limit}
+use Rattle.n41_model.specs.Kept.{Kept}
 use Rattle.n41_model.specs.Requests.{rounds}
 use Rattle.n41_view.specs.Causes.{CauseIn}
 use Rattle.n41_view.specs.Laws.{CausesFromView}
-use Rattle.n41_view.specs.View.{View, view, seat_of}
+use Rattle.n41_view.specs.View.{View, view}
 use Rattle.n41_view.specs.declared.tables.Seat.{Seat}
 use Rattle.n41_core.specs.Books.{Book, AnswerFor}
-use Rattle.n41_core.specs.Settled.{IsLight, IsDone, GoesOn}
+use Rattle.n41_core.specs.Settled.{IsLight, IsDone}
 use Rattle.n41_core.proofs.Light.{IsEarned, light, earned_only}
-use Rattle.n41_core.proofs.Seats.{Sits, sits, absent}
+use Rattle.n41_core.proofs.Seats.{sits, absent}
 
 asked : (o : Option Command) → is_none o ≡ false → IsSome o
 asked None e = absurd (cc)
@@ -30,7 +25,7 @@ not_asked None e = refl
 not_asked (Some k) e = absurd (cc)
 
 earned_cause : (w : View) (s : Seat) (a : Answer) → IsEarned a → s.earned ≡ Some a → CauseIn w s a
-earned_cause w s (says.Done (value.Stat kind size fileid mode)) h e = e
+earned_cause w s (says.Done x) h e = e
 earned_cause w s (says.Refused t) h e = e
 earned_cause w s a h e = absurd h
 

@@ -1,19 +1,18 @@
 -- What each event leaves of commands that wait.
-use Rattle.std.proofs.Common.{◌≡◌, ◌⊎◌, inl, inr, ℕ, zero, suc, ◌+◌, ◌-◌, ◌<◌, ◌≤◌, ◌==◌, Bool, true, false, List, [], ◌∷◌, ◌++◌, Option, Some, None, get_or, if◌then◌else◌, refl, sym, ◌∙◌, ap, subst, arith, append_assoc}
+use Rattle.std.proofs.Common.{◌≡◌, ◌⊎◌, inl, inr, ℕ, ◌==◌, Bool, true, false, List, [], ◌∷◌, ◌++◌, Option, Some, None, if◌then◌else◌, refl, sym, ◌∙◌, ap, arith, append_assoc}
 use Rattle.std.proofs.lemmas.Bool.Decides.{nat_tests}
 use Rattle.n41_types.specs.declared.commands.Answer.{Answer}
 use Rattle.n41_types.specs.declared.commands.Answer.TheVariants.{Breach}
 use Rattle.n41_types.specs.declared.commands.Command.{Command}
 use Rattle.n41_types.specs.declared.plans.Request.{Request}
-use Rattle.n41_results.specs.declared.replies.Reply.{Reply}
 use Rattle.n41_journal.specs.declared.events.Cause.{Cause}
 use Rattle.n41_journal.specs.declared.events.Event.{Event}
-use Rattle.n41_journal.specs.declared.events.Event.TheVariants.{Began, Put, Took, CbTook, CbPut, Dialed, DialFailed, Broke, Ticked, Answered, Quit}
-use Rattle.n41_model.specs.Requests.{moment, slot_number}
+use Rattle.n41_journal.specs.declared.events.Event.TheVariants.{Began, Put, Dialed, DialFailed, Broke, Answered, Quit}
+use Rattle.n41_model.specs.Requests.{slot_number}
 use Rattle.n41_model.specs.Sessions.{phase}
-use Rattle.n41_model.specs.Calls.{Call, Ledger, ledger, call, command, put_call, fresh_call, is_caller, is_new, in_running, chosen}
+use Rattle.n41_model.specs.Calls.{Call, Ledger, ledger, call, command, put_call, fresh_call, way_of, is_caller, is_new, in_running, chosen}
 use Rattle.n41_model.specs.Answers.{breach_at}
-use Rattle.n41_core.specs.Settled.{Waits, IsSettled, GoesOn, IsDone, IsDecided}
+use Rattle.n41_core.specs.Settled.{Waits, IsSettled, IsDone, IsDecided}
 use Rattle.n41_core.specs.State.{OnlyAnswers, AddsAnswers}
 
 -- ---- answers behind events
@@ -91,7 +90,7 @@ settled_decided n js h = λ d l. at_caller d (h d l) where
   at_caller d (inl e) = inl e
   at_caller d (inr g) = inr g.waits
 
-began_waits : (b : Bool) (o : Option Command) (k : Command) (x : Call) → (o ≡ None) ⊎ (x.earned ≡ None) → ((if b then Some k else o) ≡ None) ⊎ ((if b then fresh_call else x).earned ≡ None)
+began_waits : (b : Bool) (o : Option Command) (k : Command) (x : Call) → (o ≡ None) ⊎ (x.earned ≡ None) → ((if b then Some k else o) ≡ None) ⊎ ((if b then fresh_call (way_of k) else x).earned ≡ None)
 began_waits true o k x h = inr refl
 began_waits false o k x h = h
 

@@ -1,8 +1,7 @@
 -- No command is unanswered that has its answer.
-use Rattle.std.specs.Prelude.{◌≡◌, ◌⊎◌, ◌<◌, ℕ, List, Option, None}
+use Rattle.std.specs.Prelude.{◌≡◌, ◌⊎◌, ◌<◌, ℕ, List, None}
 use Rattle.n41_types.specs.declared.commands.Answer.{Answer}
 use Rattle.n41_types.specs.declared.commands.Answer.TheVariants as answer
-use Rattle.n41_types.specs.declared.commands.Value.{Value}
 use Rattle.n41_types.specs.declared.commands.Value.TheVariants as value
 use Rattle.n41_journal.specs.declared.events.Event.{Event}
 use Rattle.n41_model.specs.Requests.{rounds}
@@ -34,5 +33,8 @@ IsDecided n js = (c : ℕ) → c < n → IsDone n js c
 -- an answer that holds no memory
 abbrev pub IsLight : Answer → Type 0
 IsLight (answer.Done (value.Stat kind size fileid mode)) = Unit {0}
+IsLight (answer.Done value.Made) = Unit {0}
+IsLight (answer.Done value.Removed) = Unit {0}
+IsLight (answer.Done value.Renamed) = Unit {0}
 IsLight (answer.Done x) = ⊥
 IsLight a = Unit {0}

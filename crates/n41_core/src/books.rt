@@ -11,7 +11,7 @@ use n41_answers::{Answers, answer_of, the_lists_step};
 use n41_due::Lookup;
 use n41_journal::{Event, Journal};
 use n41_model::Setup;
-use n41_tables::Tables;
+use n41_tables::{EventCopy, Tables};
 use n41_tied::Tied;
 use n41_types::{Answer, NoMemory};
 use n41_view::{Facts, Seat};
@@ -151,8 +151,8 @@ impl Books {
         self.tied.reserve(events)
     }
 
-    /// Adds an event that may come now and is no answer.
-    pub(crate) fn add(&mut self, event: Event, copy: Event)
+    /// Adds an event that may come now and is no answer. The tables move by its copy.
+    pub(crate) fn add(&mut self, event: Event, copy: EventCopy)
         requires room { 0 < self.old.room }
         requires may { May self.old.setup self.old.events event }
         requires other { IsNoAnswer event }
@@ -179,11 +179,11 @@ impl Books {
                 number,
                 answer,
             },
-            Event::Answered {
+            EventCopy::plain(Event::Answered {
                 caller,
                 number,
                 answer: copy,
-            },
+            }),
         );
     }
 }

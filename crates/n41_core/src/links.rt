@@ -5,6 +5,7 @@ ghost use Rattle.n41_core.specs.State.{appends};
 
 use crate::client::Core;
 use n41_journal::{Cause, Event};
+use n41_tables::EventCopy;
 use n41_types::NoMemory;
 use std::alloc::AllocError;
 
@@ -20,8 +21,10 @@ impl Core {
             return Err(AllocError);
         };
         self.books.reserve(2)?;
-        self.books
-            .add(Event::Dialed { conn }, Event::Dialed { conn });
+        self.books.add(
+            Event::Dialed { conn },
+            EventCopy::plain(Event::Dialed { conn }),
+        );
         Ok(conn)
     }
 
@@ -32,7 +35,8 @@ impl Core {
         ensures err { OnErr result (self.new ≡ self.old) }
     {
         self.books.reserve(2)?;
-        self.books.add(Event::DialFailed, Event::DialFailed);
+        self.books
+            .add(Event::DialFailed, EventCopy::plain(Event::DialFailed));
         Ok(())
     }
 

@@ -1,5 +1,5 @@
-ghost use Rattle.std.specs.Prelude.{◌≡◌, ◌⊎◌, ◌≤◌, ◌<◌, suc, Some, None, IsSome, IfOk, IfErr, OnOk, OnErr};
-ghost use Rattle.n41_model.specs.Calls.{number as last_number, next_plan};
+ghost use Rattle.std.specs.Prelude.{◌≡◌, ◌⊎◌, ◌≤◌, ◌<◌, suc, true, Some, None, IfOk, IfErr, OnOk, OnErr};
+ghost use Rattle.n41_model.specs.Calls.{number as last_number, is_built};
 ghost use Rattle.n41_core.specs.Books.{HasSpare};
 ghost use Rattle.n41_core.specs.State.{State, posted};
 ghost use Rattle.n41_core.specs.Causes.{post_fault};
@@ -9,6 +9,7 @@ use crate::books::Books;
 use crate::client::Core;
 use crate::faults::{PostFault, Ticket};
 use n41_journal::Event;
+use n41_tables::EventCopy;
 use n41_types::{Answer, Command};
 
 /// The number of the caller's next command, where it may begin one.
@@ -52,7 +53,7 @@ fn ready(books: &mut Books, caller: u32) -> Result<u64, PostFault>
 fn note_command(books: &mut Books, caller: u32, number: u64, command: Command, copy: Command)
     requires room { 3 ≤ books.old.room }
     requires spare { HasSpare 0 books.old }
-    requires built { IsSome (next_plan (Some command)) }
+    requires built { is_built command ≡ true }
     requires same { copy ≡ command }
     requires number { number ≡ suc (last_number books.old.events caller) }
     requires free { post_fault (record { setup = books.old.setup; events = books.old.events }) caller ≡ None }
@@ -68,12 +69,12 @@ fn note_command(books: &mut Books, caller: u32, number: u64, command: Command, c
             command,
             moment,
         },
-        Event::Began {
+        EventCopy::plain(Event::Began {
             caller,
             number,
             command: copy,
             moment,
-        },
+        }),
     );
     if let Some(place) = facts.breach_at {
         books.answer(caller, number, Answer::Breach(place));
@@ -83,7 +84,7 @@ fn note_command(books: &mut Books, caller: u32, number: u64, command: Command, c
 fn begin(books: &mut Books, caller: u32, number: u64, command: Command) -> Result<Ticket, PostFault>
     requires room { 3 ≤ books.old.room }
     requires spare { HasSpare 0 books.old }
-    requires built { IsSome (next_plan (Some command)) }
+    requires built { is_built command ≡ true }
     requires number { number ≡ suc (last_number books.old.events caller) }
     requires free { post_fault (record { setup = books.old.setup; events = books.old.events }) caller ≡ None }
     ensures ok { IfOk result (λ t. record { setup = books.new.setup; events = books.new.events } ≡ posted (record { setup = books.old.setup; events = books.old.events }) caller command) }
@@ -108,7 +109,7 @@ impl Core {
     /// Begins a command of a caller. Where a reply broke the rules before, it is answered at once. Nothing changes where it does not begin:
     /// where there is no such caller, where the caller's last command is unanswered, where no more commands come, or for want of memory.
     pub fn post(&mut self, caller: u32, command: Command) -> Result<Ticket, PostFault>
-        requires { IsSome (next_plan (Some command)) }
+        requires { is_built command ≡ true }
         ensures ok { IfOk result (λ t. self.new ≡ posted self.old caller command) }
         ensures ticket { IfOk result (λ t. t ≡ record { caller = caller; number = suc (last_number self.old.events caller) }) }
         ensures free { IfOk result (λ t. post_fault self.old caller ≡ None) }

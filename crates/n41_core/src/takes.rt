@@ -15,6 +15,7 @@ use crate::faults::TookFault;
 use n41_fits::fits;
 use n41_journal::{Cause, Event};
 use n41_results::{Heard, Incoming, Reply, Shape};
+use n41_tables::EventCopy;
 use n41_types::NoMemory;
 use n41_view::the_view_tells_what_is_awaited;
 
@@ -45,17 +46,14 @@ fn take(books: &mut Books, conn: u64, place: u64, reply: Reply) -> Result<(), No
     ensures same { OnErr result (books.new.events ≡ books.old.events) }
     ensures more { OnErr result (books.old.room ≤ books.new.room) }
 {
-    let copy = reply.clone()?;
+    let copy = EventCopy::of(Event::Took {
+        conn,
+        place,
+        reply: reply.clone()?,
+    })?;
     books.reserve_answers(66)?;
     let _callers = books.setup().callers;
-    books.add(
-        Event::Took { conn, place, reply },
-        Event::Took {
-            conn,
-            place,
-            reply: copy,
-        },
-    );
+    books.add(Event::Took { conn, place, reply }, copy);
     settle(books);
     Ok(())
 }
@@ -85,8 +83,10 @@ impl Core {
         requires may { MayBreakBy self.old.events cause }
         ensures { self.new ≡ appends self.old (Event.Broke conn cause) }
     {
-        self.books
-            .add(Event::Broke { conn, cause }, Event::Broke { conn, cause });
+        self.books.add(
+            Event::Broke { conn, cause },
+            EventCopy::plain(Event::Broke { conn, cause }),
+        );
     }
 
     fn took_reply(&mut self, conn: u64, place: u64, reply: Reply) -> Result<(), TookFault>

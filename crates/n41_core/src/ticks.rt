@@ -8,6 +8,7 @@ use crate::answering::settle;
 use crate::books::Books;
 use crate::client::Core;
 use n41_journal::Event;
+use n41_tables::EventCopy;
 use n41_types::NoMemory;
 
 /// Notes a moment that is later than the last one.
@@ -19,7 +20,10 @@ fn note_moment(books: &mut Books, moment: u64)
     ensures room { books.old.room ≤ books.new.room + 1 }
 {
     if moment > books.facts().moment {
-        books.add(Event::Ticked { moment }, Event::Ticked { moment });
+        books.add(
+            Event::Ticked { moment },
+            EventCopy::plain(Event::Ticked { moment }),
+        );
     }
 }
 
@@ -47,7 +51,7 @@ impl Core {
             return Ok(());
         }
         self.books.reserve(2)?;
-        self.books.add(Event::Quit, Event::Quit);
+        self.books.add(Event::Quit, EventCopy::plain(Event::Quit));
         Ok(())
     }
 }

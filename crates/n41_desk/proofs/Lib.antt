@@ -1,6 +1,5 @@
 mod Events
 mod Fates
-mod Small
 mod Heard
 mod Taken
 mod Linked

@@ -1,9 +1,9 @@
-ghost use Rattle.std.specs.Prelude.{◌≡◌, ◌≤◌, [], ◌&&◌, ℕ, length, nat_lt, is_none, if◌then◌else◌, IsSome, IfOk, IfErr, IfSome, IfNone, OnOk, OnErr};
+ghost use Rattle.std.specs.Prelude.{◌≡◌, ◌≤◌, [], ◌&&◌, ℕ, length, nat_lt, is_none, if◌then◌else◌, IsSome, IfOk, IfErr, IfSome, IfNone, OnOk, OnErr, true};
 ghost use Rattle.n41_types.specs.declared.commands.Answer.{Answer as AnswerValue};
 ghost use Rattle.n41_journal.specs.declared.events.Event.{Event as EventValue};
 ghost use Rattle.n41_answers.specs.Answers.{HasAnswer};
 ghost use Rattle.n41_model.specs.Answers.{breach_at};
-ghost use Rattle.n41_model.specs.Calls.{command, next_plan};
+ghost use Rattle.n41_model.specs.Calls.{command, is_built};
 ghost use Rattle.n41_model.specs.Kept.{Kept};
 ghost use Rattle.n41_model.specs.Requests.{quit, rounds};
 ghost use Rattle.n41_core.specs.Settled.{IsSettled};
@@ -101,7 +101,7 @@ where
     /// where the caller's last command is unanswered, where no more commands come, or for want of memory.
     pub fn post(&mut self, caller: u32, command: Command) -> Result<Ticket, PostFault>
         requires holds { Holds C.given self.old }
-        requires built { IsSome (next_plan (Some command)) }
+        requires built { is_built command ≡ true }
         ensures ok { IfOk result (λ ticket. Posts (desk_state self.old) (desk_state self.new) caller command ticket) }
         ensures err { OnErr result (IsNoted (desk_state self.old) (desk_state self.new)) }
         ensures cause { IfErr result (λ fault. PostCause (desk_state self.new) caller fault) }

@@ -16,7 +16,6 @@ use crate::breaking::{Fate, break_off};
 use n41_core::{Core, Packet};
 use n41_journal::Cause;
 use n41_link::{Inflow, Outflow, SayFault};
-use n41_requests::{request_fits, small_requests};
 use n41_types::NoMemory;
 use n41_wire::{Outlet, Wire};
 
@@ -59,12 +58,9 @@ pub(crate) fn say<I: Inflow, O: Outflow>(
     ensures core_kept { OnErr result (core.new ≡ core.old) }
     ensures wire_kept { OnErr result (wire.new ≡ wire.old) }
 {
-    small_requests();
-    core.kept();
     let Some(packet) = core.next_out(conn)? else {
         return Ok(Fate::Stands);
     };
-    request_fits(packet.request());
     let sent = tell(&mut wire.outlet, packet);
     Ok(follow(core, conn, sent))
 }

@@ -6,7 +6,7 @@ use Rattle.std.proofs.lemmas.Option.{get_or_from_slice_get}
 use Rattle.std.specs.Prelude.{IsSome}
 use Rattle.n41_types.specs.declared.commands.Command.{Command}
 use Rattle.n41_journal.specs.declared.events.Event.{Event}
-use Rattle.n41_model.specs.Calls.{next_plan}
+use Rattle.n41_model.specs.Calls.{is_built}
 use Rattle.n41_script.specs.declared.script.ScriptLine.{ScriptLine}
 use Rattle.n41_desk.specs.Journals.{begun_by}
 use Rattle.n41_drive.specs.Drives.{commands_of, AreBuilt, IsNext, HasBegun}
@@ -53,9 +53,9 @@ some_is x y e = cc
 no_some : (y : ScriptLine) → None ≡ Some y → ⊥
 no_some y e = cc
 
-pub built_at : (ls : List ScriptLine) (i : ℕ) (l : ScriptLine) → AreBuilt ls → slice_get ls i ≡ Some l → IsSome (next_plan (Some l.command))
+pub built_at : (ls : List ScriptLine) (i : ℕ) (l : ScriptLine) → AreBuilt ls → slice_get ls i ≡ Some l → is_built l.command ≡ true
 built_at [] i l b e = absurd (no_some l e)
-built_at (x ∷ ls) zero l b e = subst (λ (y : ScriptLine). IsSome (next_plan (Some y.command))) (some_is x l e) b.0
+built_at (x ∷ ls) zero l b e = subst (λ (y : ScriptLine). is_built y.command ≡ true) (some_is x l e) b.0
 built_at (x ∷ ls) (suc i) l b e = built_at ls i l b.1 e
 
 pub within : (ls : List ScriptLine) (i : ℕ) (l : ScriptLine) → slice_get ls i ≡ Some l → i < length ls
@@ -74,9 +74,9 @@ is_within ls c from next l n = within ls next l n.there
 command_is : (ls : List ScriptLine) (c from next : ℕ) (l d : ScriptLine) (k : Command) → IsNext ls c from next l → d ≡ get_or ls next d → k ≡ d.command → k ≡ l.command
 command_is ls c from next l d k n e f = f ∙ ap (λ (x : ScriptLine). x.command) (e ∙ line_at ls next l d n.there)
 
-pub built_next : (ls : List ScriptLine) (c from next : ℕ) (l d : ScriptLine) (k : Command) → AreBuilt ls → IsNext ls c from next l → d ≡ get_or ls next d → k ≡ d.command → IsSome (next_plan (Some k))
+pub built_next : (ls : List ScriptLine) (c from next : ℕ) (l d : ScriptLine) (k : Command) → AreBuilt ls → IsNext ls c from next l → d ≡ get_or ls next d → k ≡ d.command → is_built k ≡ true
 built_next ls c from next l d k b n e f =
-    subst (λ (x : Command). IsSome (next_plan (Some x))) (sym (command_is ls c from next l d k n e f)) (built_at ls next l b n.there)
+    subst (λ (x : Command). is_built x ≡ true) (sym (command_is ls c from next l d k n e f)) (built_at ls next l b n.there)
 
 pub begun_next : (js ks : List Event) (ls : List ScriptLine) (c from next : ℕ) (l d : ScriptLine) (k : Command) → HasBegun js ls c from → begun_by ks c ≡ begun_by js c ++ k ∷ [] → IsNext ls c from next l → d ≡ get_or ls next d → k ≡ d.command → HasBegun ks ls c (next + 1)
 begun_next js ks ls c from next l d k b g n e f =

@@ -2,7 +2,7 @@
 use Rattle.std.specs.Prelude.{◌≡◌, ◌<◌, ℕ, ◌==◌, true, List, [], ◌∷◌, take, length, slice_get, slice_index, if◌then◌else◌, IsSome, None, Some}
 use Rattle.n41_types.specs.declared.commands.Command.{Command}
 use Rattle.n41_journal.specs.declared.events.Event.{Event}
-use Rattle.n41_model.specs.Calls.{command, next_plan}
+use Rattle.n41_model.specs.Calls.{command, is_built}
 use Rattle.n41_model.specs.Due.{has_ended}
 use Rattle.n41_model.specs.Requests.{quit}
 use Rattle.n41_script.specs.declared.script.ScriptLine.{ScriptLine}
@@ -19,7 +19,7 @@ commands_of c (l ∷ ls) = if l.caller == c then l.command ∷ commands_of c ls 
 -- each of these commands is one that is built
 abbrev pub AreBuilt : List ScriptLine → Type 0
 AreBuilt [] = Unit {0}
-AreBuilt (l ∷ ls) = IsSome (next_plan (Some l.command)) × AreBuilt ls
+AreBuilt (l ∷ ls) = (is_built l.command ≡ true) × AreBuilt ls
 
 -- the line at this place is the first of a caller from a place on
 pub record IsNext (ls : List ScriptLine) (c from place : ℕ) (line : ScriptLine) : Type 0 where

@@ -5,3 +5,4 @@ pub mod OneWant
 pub mod Placed
 pub mod Old
 pub mod Next
+pub mod Begins

@@ -4,15 +4,19 @@ use Rattle.n41_types.specs.declared.plans.Request.{Request}
 use Rattle.n41_model.specs.declared.words.Item.{Item}
 use Rattle.n41_model.specs.declared.words.Item.TheVariants as item
 use Rattle.n41_model.specs.declared.words.Setup.{Setup}
-use Rattle.n41_model.specs.Calls.{next_plan}
 use Rattle.n41_view.specs.View.{View}
 use Rattle.n41_view.specs.Due.{is_ready_seat, due_in}
+use Rattle.n41_view.specs.Step.{seat_plan}
 use Rattle.n41_view.specs.declared.tables.Seat.{Seat}
+
+-- The command has a next plan: that does not hang on how many names go into a walk.
+abbrev pub has_next : Seat → Bool
+has_next s = is_some (seat_plan 1 s)
 
 -- the command can go on, and has a next plan
 abbrev pub can_begin : ℕ → Option Seat → Bool
 can_begin m None = false
-can_begin m (Some s) = is_ready_seat m s && is_some (next_plan s.command)
+can_begin m (Some s) = is_ready_seat m s && has_next s
 
 -- the place where the command began
 abbrev pub began_of : Option Seat → ℕ

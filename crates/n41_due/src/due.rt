@@ -97,12 +97,16 @@ impl Lookup<'_> {
         self.may_own() && matches!(self.facts.phase, Phase::Completing) && self.has_room()
     }
 
+    #[tactic(auto, using(crate::proofs::Begins::no_room, crate::proofs::Begins::fresh_is, crate::proofs::Begins::fresh_first, crate::proofs::Begins::fresh_none))]
     fn due_begin(&self) -> Option<u32>
         ensures some { IfSome result (λ c. (u : SetupValue) → IsSome (due_item u self.now (Item.Fresh c))) }
         ensures first { IfSome result (λ c. (u : SetupValue) (d : ℕ) → began_of (slice_get self.now.seats d) < began_of (slice_get self.now.seats c) → due_item u self.now (Item.Fresh d) ≡ None) }
         ensures none { IfNone result ((u : SetupValue) (d : ℕ) → due_item u self.now (Item.Fresh d) ≡ None) }
     {
-        if self.is_finishing() || !matches!(self.facts.phase, Phase::Running) || !self.has_room() {
+        if self.is_finishing() || !matches!(self.facts.phase, Phase::Running) {
+            return None;
+        }
+        if !self.has_room() {
             return None;
         }
         match first_ready(self.seats, self.facts.moment) {

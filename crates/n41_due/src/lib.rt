@@ -9,6 +9,7 @@ mod plans;
 mod requests;
 mod seats;
 mod slots;
+mod walks;
 mod wants;
 mod xids;
 

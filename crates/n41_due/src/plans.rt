@@ -1,12 +1,11 @@
 ghost use Rattle.std.specs.Prelude.{◌≡◌, ◌+◌, ◌<◌, Some, IfOk, is_some};
 ghost use Rattle.n41_model.specs.declared.words.Setup.{Setup as SetupValue};
-ghost use Rattle.n41_model.specs.Calls.{next_plan};
 ghost use Rattle.n41_model.specs.Due.{bind_in, create_in, own_plan_in, destroy_in, bare_request};
 ghost use Rattle.n41_view.specs.Due.{put_off_in, plan_for};
 
 use n41_model::{KnownClient, Phase, Setup};
 use n41_results::SessionMade;
-use n41_types::{Command, NoMemory, Place, Plan};
+use n41_types::{NoMemory, Plan};
 use n41_view::{Facts, PutOffs};
 
 /// The moment at which the last request of a phase was put off, where none was put since.
@@ -18,19 +17,6 @@ pub fn put_off(put_offs: &PutOffs, phase: Phase) -> Option<u64>
         Phase::Session => put_offs.session,
         Phase::ClientId => put_offs.client_id,
         Phase::Completing => put_offs.completing,
-        _ => None,
-    }
-}
-
-/// The next plan of a command.
-pub fn next_plan(command: &Option<Command>) -> Option<Plan>
-    ensures { result ≡ next_plan command.now }
-{
-    match command {
-        Some(Command::Stat { path }) => match path.as_slice() {
-            [] => Some(Plan::Stat { at: Place::Root }),
-            _ => None,
-        },
         _ => None,
     }
 }

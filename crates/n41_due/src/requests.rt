@@ -8,13 +8,16 @@ ghost use Rattle.n41_view.specs.Due.{finishing_in, first_free, new_on, new_bare,
 ghost use Rattle.n41_view.specs.Causes.{any_old, awaited_in, is_old_in};
 
 use crate::lookup::Lookup;
-use crate::plans::{destroy_plan, next_plan, own_plan, phase_plan};
+use crate::plans::{destroy_plan, own_plan, phase_plan};
 use crate::seats::is_ready;
 use crate::slots::{again, any_old, first_free, first_old, held_with, highest};
+use crate::walks::next_plan;
 use crate::xids::is_named;
 use n41_model::{Item, Phase, Sent, Setup};
+use n41_said::walk_most;
 use n41_types::{NoMemory, Plan, Request, SlotUse};
 use n41_view::Seat;
+use std::alloc::Global;
 
 fn copied(request: Option<&Request>) -> Result<Option<Request>, NoMemory>
     ensures { IfOk result (λ o. o ≡ option_copied request.entry) }
@@ -133,27 +136,38 @@ impl Lookup<'_> {
         }
     }
 
-    fn begin_request(&self, setup: &Setup, seat: &Seat) -> Option<Request>
-        ensures { result ≡ begins_seat setup.now self.now (Some seat.now) }
+    fn begin_request(
+        &self,
+        alloc: Global,
+        setup: &Setup,
+        seat: &Seat,
+    ) -> Result<Option<Request>, NoMemory>
+        ensures { IfOk result (λ o. o ≡ begins_seat setup.now self.now (Some seat.now)) }
     {
         if !is_ready(self.facts.moment, seat) {
-            return None;
+            return Ok(None);
         }
-        match next_plan(&seat.command) {
+        let most = walk_most(self.facts.session);
+        Ok(match next_plan(alloc, most, &seat.command, &seat.way)? {
             None => None,
             Some(plan) => self.new_on(setup, plan),
-        }
+        })
     }
 
-    fn fresh_request(&self, setup: &Setup, caller: u32) -> Option<Request>
-        ensures { result ≡ due_item setup.now self.now (Item.Fresh caller) }
+    fn fresh_request(
+        &self,
+        alloc: Global,
+        setup: &Setup,
+        caller: u32,
+    ) -> Result<Option<Request>, NoMemory>
+        ensures { IfOk result (λ o. o ≡ due_item setup.now self.now (Item.Fresh caller)) }
     {
         if self.is_finishing() || !matches!(self.facts.phase, Phase::Running) {
-            return None;
+            return Ok(None);
         }
         match self.seats.get(caller as usize) {
-            None => None,
-            Some(seat) => self.begin_request(setup, seat),
+            None => Ok(None),
+            Some(seat) => self.begin_request(alloc, setup, seat),
         }
     }
 
@@ -169,7 +183,12 @@ impl Lookup<'_> {
         }
     }
 
-    fn item_request(&self, setup: &Setup, item: Item) -> Result<Option<Request>, NoMemory>
+    fn item_request(
+        &self,
+        alloc: Global,
+        setup: &Setup,
+        item: Item,
+    ) -> Result<Option<Request>, NoMemory>
         ensures { IfOk result (λ o. o ≡ due_item setup.now self.now item) }
     {
         match item {
@@ -177,30 +196,35 @@ impl Lookup<'_> {
             Item::Retry(slot) => self.retry_request(slot),
             Item::Step => self.step_request(setup),
             Item::Own => Ok(self.own_request(setup)),
-            Item::Fresh(caller) => Ok(self.fresh_request(setup, caller)),
+            Item::Fresh(caller) => self.fresh_request(alloc, setup, caller),
             Item::Destroy => Ok(self.destroy_request(setup)),
         }
     }
 
     /// The request of this kind that is due on the standing connection, or want of memory. None exactly where none is due.
-    pub fn request_due(&self, setup: &Setup, item: Item) -> Result<Option<Request>, NoMemory>
+    pub fn request_due(
+        &self,
+        alloc: Global,
+        setup: &Setup,
+        item: Item,
+    ) -> Result<Option<Request>, NoMemory>
         ensures { IfOk result (λ o. o ≡ due_in setup.now self.now item) }
     {
         if !self.is_open() {
             return Ok(None);
         }
-        self.item_request(setup, item)
+        self.item_request(alloc, setup, item)
     }
 
     /// Of the requests that are due on the standing connection the one that goes first, or want of memory. None exactly where none is
     /// due.
-    pub fn next_request(&self, setup: &Setup) -> Result<Option<Request>, NoMemory>
+    pub fn next_request(&self, alloc: Global, setup: &Setup) -> Result<Option<Request>, NoMemory>
         ensures some { IfOk result (λ o. IfSome o (λ r. (i : ItemValue) × IsNext setup.now self.now r i)) }
         ensures none { IfOk result (λ o. IfNone o ((i : ItemValue) → due_in setup.now self.now i ≡ None)) }
     {
         match self.first_due() {
             None => Ok(None),
-            Some(item) => self.request_due(setup, item),
+            Some(item) => self.request_due(alloc, setup, item),
         }
     }
 

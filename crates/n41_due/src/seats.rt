@@ -5,8 +5,8 @@ ghost use Rattle.n41_view.specs.Step.{call_of};
 ghost use Rattle.n41_due.specs.Order.{can_begin, began_of, is_sooner};
 ghost use Rattle.n41_due.specs.Answers.{has_earned, is_unanswered};
 
-use crate::plans::next_plan;
 use crate::slots::has_passed;
+use crate::walks::has_next;
 use n41_view::Seat;
 
 /// Whether every command is answered.
@@ -34,7 +34,7 @@ pub fn is_ready(moment: u64, seat: &Seat) -> bool
 fn can_begin(moment: u64, seat: &Seat) -> bool
     ensures { result ≡ can_begin moment (Some seat.now) }
 {
-    is_ready(moment, seat) && next_plan(&seat.command).is_some()
+    is_ready(moment, seat) && has_next(seat)
 }
 
 /// Whether the command began before that of the best caller so far.

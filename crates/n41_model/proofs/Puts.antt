@@ -13,7 +13,7 @@ use Rattle.n41_model.specs.declared.words.Setup.{Setup}
 use Rattle.n41_model.specs.Requests.{bares, bare, bare_waits, outs, out, used, sent, moment, is_bare, standing, quit}
 use Rattle.n41_model.specs.Sessions.{session, slots, free_slot, is_free, is_empty, phase, put_off, passed, bound, target, highest, next_xid}
 use Rattle.n41_types.specs.Plans.{class_of, is_cached}
-use Rattle.n41_model.specs.Calls.{command, next_plan, is_ready}
+use Rattle.n41_model.specs.Calls.{plan_next, is_ready}
 use Rattle.n41_model.specs.Due.{due, item_due, only_if, with_plan, on_free, on_free_slot, slot_request, bare_with, bare_due, goes_again, finishing, is_dead, is_running, is_session, any_waits, any_own, step_plan, own_plan, destroy_plan, may_retry, may_step, may_own, may_begin, may_destroy, is_open}
 use Rattle.n41_model.proofs.Tests.{and_true, not_true, only_if_some, with_plan_some, empty_is, free_is}
 
@@ -86,8 +86,8 @@ item_is u js item.Own r e =
     let p = with_plan_some (own_plan js) (on_free_slot u js) r h.1 in
     slot_new u js p.0 r p.1
 item_is u js (item.Fresh c) r e =
-    let h = only_if_some (may_begin u js c) (with_plan (next_plan (command js c)) (on_free_slot u js)) r e in
-    let p = with_plan_some (next_plan (command js c)) (on_free_slot u js) r h.1 in
+    let h = only_if_some (may_begin u js c) (with_plan (plan_next u.callers js c) (on_free_slot u js)) r e in
+    let p = with_plan_some (plan_next u.callers js c) (on_free_slot u js) r h.1 in
     slot_new u js p.0 r p.1
 item_is u js item.Destroy r e =
     let h = only_if_some (may_destroy u js) (with_plan (destroy_plan js) (bare_due u js)) r e in

@@ -1,5 +1,5 @@
 -- What a journal says of commands, and whose each request is.
-use Rattle.std.specs.Prelude.{ℕ, zero, suc, ◌+◌, ◌==◌, Bool, true, false, ◌&&◌, ◌||◌, not, List, [], ◌∷◌, length, Option, Some, None, Result, Ok, Err, if◌then◌else◌, nat_le, nat_lt, is_none, is_some}
+use Rattle.std.specs.Prelude.{ℕ, zero, suc, ◌+◌, ◌-◌, ◌==◌, min, take, drop, Bool, true, false, ◌&&◌, ◌||◌, not, List, [], ◌∷◌, length, Option, Some, None, Result, Ok, Err, if◌then◌else◌, nat_le, nat_lt, is_none, is_some}
 use Rattle.n41_types.specs.declared.attributes.Attrs.{Attrs}
 use Rattle.n41_types.specs.declared.commands.Answer.{Answer}
 use Rattle.n41_types.specs.declared.commands.Answer.TheVariants as says
@@ -7,7 +7,8 @@ use Rattle.n41_types.specs.declared.commands.Command.{Command}
 use Rattle.n41_types.specs.declared.commands.Command.TheVariants as asks
 use Rattle.n41_types.specs.declared.commands.Value.{Value}
 use Rattle.n41_types.specs.declared.commands.Value.TheVariants as value
-use Rattle.n41_types.specs.declared.plans.Place.TheVariants.{Root}
+use Rattle.n41_types.specs.declared.plans.Place.{Place}
+use Rattle.n41_types.specs.declared.plans.Place.TheVariants.{Root, At}
 use Rattle.n41_types.specs.declared.plans.Plan.{Plan}
 use Rattle.n41_types.specs.declared.plans.Plan.TheVariants as plan
 use Rattle.n41_types.specs.declared.plans.Request.{Request}
@@ -22,11 +23,13 @@ use Rattle.n41_journal.specs.declared.events.Event.{Event}
 use Rattle.n41_journal.specs.declared.events.Event.TheVariants.{Began, Put, Took, Answered}
 use Rattle.n41_model.specs.declared.words.Phase.{Phase}
 use Rattle.n41_model.specs.declared.words.Phase.TheVariants.{Running}
+use Rattle.n41_results.specs.declared.sessions.SessionMade.{SessionMade}
+use Rattle.n41_model.specs.declared.words.Way.{Way}
 use Rattle.n41_model.specs.declared.words.Verdict.{Verdict}
 use Rattle.n41_model.specs.declared.words.Verdict.TheVariants as v
 use Rattle.n41_model.specs.Replies.{is_ok, is_delay, is_grace, is_final}
 use Rattle.n41_model.specs.Requests.{request, outs, out, knows, is_on, moment, verdict, slot_number}
-use Rattle.n41_model.specs.Sessions.{phase, passed, plan_of}
+use Rattle.n41_model.specs.Sessions.{phase, passed, plan_of, session}
 
 -- the command of a caller that is unanswered
 abbrev pub command : List Event → ℕ → Option Command
@@ -47,10 +50,94 @@ began_at [] c = 0
 began_at (Began d n k m ∷ js) c = if d == c then suc (length js) else began_at js c
 began_at (e ∷ js) c = began_at js c
 
--- The next plan of a command. A stat of the root needs no walk; the other commands are not built yet.
-abbrev pub next_plan : Option Command → Option Plan
-next_plan (Some (asks.Stat [])) = Some (plan.Stat Root)
-next_plan k = None
+-- ---- walks
+
+abbrev pub is_none_left : List (List ℕ) → Bool
+is_none_left [] = true
+is_none_left (n ∷ ns) = false
+
+abbrev pub first_name : List (List ℕ) → Option (List ℕ)
+first_name [] = None
+first_name (n ∷ ns) = Some n
+
+-- the commands that are built; each but a stat needs a name to work on
+abbrev pub is_built : Command → Bool
+is_built (asks.Stat p) = true
+is_built (asks.MakeDir p) = not (is_none_left p)
+is_built (asks.Remove p) = not (is_none_left p)
+is_built (asks.Rename p q) = not (is_none_left p) && not (is_none_left q)
+is_built k = false
+
+-- a command at its beginning stands at the root
+abbrev pub at_root : Option Place → Way
+at_root old = record { at = Root; walked = 0; old = old }
+
+-- the names from the root to the directory that a path's last name is in
+abbrev pub parents : List (List ℕ) → List (List ℕ)
+parents p = take (length p - 1) p
+
+-- the names that a command walks: all of a stat's, and all but the last of the others'. A rename walks to its old name first.
+abbrev pub route : Command → Option Place → List (List ℕ)
+route (asks.Stat p) old = p
+route (asks.MakeDir p) old = parents p
+route (asks.Remove p) old = parents p
+route (asks.Rename p q) None = parents p
+route (asks.Rename p q) (Some d) = parents q
+route k old = []
+
+-- the names that are still to be walked
+abbrev pub ahead : Command → Way → List (List ℕ)
+ahead k w = drop w.walked (route k w.old)
+
+-- the directory of the old name was reached: the walk to the new one begins at the root
+abbrev pub turned : Command → Way → Way
+turned (asks.Rename p q) w = if is_none w.old && is_none_left (ahead (asks.Rename p q) w) then at_root (Some w.at) else w
+turned k w = w
+
+abbrev pub way_of : Command → Way
+way_of k = turned k (at_root None)
+
+-- a walk of so many names came to this file, and no further than to the end of its route
+abbrev pub walked : Command → ℕ → List ℕ → Way → Way
+walked k n fh w = turned k (record { at = At fh; walked = min (w.walked + n) (length (route k w.old)); old = w.old })
+
+abbrev pub last_of : List (List ℕ) → Option (List ℕ)
+last_of p = first_name (drop (length p - 1) p)
+
+abbrev pub make_dir : Place → Option (List ℕ) → Option Plan
+make_dir at None = None
+make_dir at (Some n) = Some (plan.MakeDir at n)
+
+abbrev pub remove : Place → Option (List ℕ) → Option Plan
+remove at None = None
+remove at (Some n) = Some (plan.Remove at n)
+
+abbrev pub rename : Option Place → Option (List ℕ) → Place → Option (List ℕ) → Option Plan
+rename (Some d) (Some m) at (Some n) = Some (plan.Rename d m at n)
+rename d m at n = None
+
+-- what a command asks for at the end of its walk
+abbrev pub goal : Command → Way → Option Plan
+goal (asks.Stat p) w = Some (plan.Stat w.at)
+goal (asks.MakeDir p) w = make_dir w.at (last_of p)
+goal (asks.Remove p) w = remove w.at (last_of p)
+goal (asks.Rename p q) w = rename w.old (last_of p) w.at (last_of q)
+goal k w = None
+
+-- a walk from here over as many of these names as go into one request, or what is asked for where none is left
+abbrev pub walk_or : ℕ → Place → List (List ℕ) → Option Plan → Option Plan
+walk_or most at [] p = p
+walk_or most at (n ∷ ns) p = Some (plan.Walk at (take most (n ∷ ns)))
+
+-- The names that go into one request: 8, or what the session's operations leave beside SEQUENCE, PUTFH and GETFH.
+abbrev pub walk_most : Option SessionMade → ℕ
+walk_most None = 8
+walk_most (Some m) = min 8 (m.fore.ops_max - 3)
+
+-- the next plan of a command that has come so far
+abbrev pub next_plan : ℕ → Option Command → Way → Option Plan
+next_plan most None w = None
+next_plan most (Some k) w = walk_or most w.at (ahead k w) (goal k w)
 
 -- whether a request with this plan is the command's next
 abbrev pub is_plan : Option Plan → Plan → Bool
@@ -68,8 +155,12 @@ abbrev pub stat_value : List Res → Option Value
 stat_value (s ∷ put ∷ res.GetAttr (Ok a) ∷ []) = value_of_attrs a.kind a.size a
 stat_value xs = None
 
+-- a walk has no value of its own
 abbrev pub body_value : Plan → ReplyBody → Option Value
 body_value (plan.Stat at) (Results s xs) = stat_value xs
+body_value (plan.MakeDir dir name) (Results s xs) = Some value.Made
+body_value (plan.Remove dir name) (Results s xs) = Some value.Removed
+body_value (plan.Rename from old to new) (Results s xs) = Some value.Renamed
 body_value p body = None
 
 -- the value that the reply to the last request of a command spells
@@ -79,6 +170,16 @@ value_of p y = body_value p y.body
 abbrev pub done_with : Option Value → Option Answer
 done_with None = None
 done_with (Some x) = Some (says.Done x)
+
+-- the filehandle of a last GETFH
+abbrev pub reached : List Res → Option (List ℕ)
+reached [] = None
+reached (res.GetFh (Ok fh) ∷ []) = Some fh
+reached (x ∷ xs) = reached xs
+
+abbrev pub reached_in : ReplyBody → Option (List ℕ)
+reached_in (Results s xs) = reached xs
+reached_in body = None
 
 -- DELAY and GRACE lead to a new attempt, 64 times
 abbrev pub is_again : Status → ℕ → Bool
@@ -103,22 +204,42 @@ pub record Call : Type 0 where
   pub since : Option ℕ  -- the moment of a DELAY or GRACE, while no new attempt was made
   pub attempts : ℕ  -- the attempts of its step so far
   pub earned : Option Answer  -- the answer that its last reply gives
+  pub way : Way  -- how far its walk has come
 
-abbrev pub fresh_call : Call
-fresh_call = record { busy = false; since = None; attempts = 0; earned = None }
+abbrev pub fresh_call : Way → Call
+fresh_call w = record { busy = false; since = None; attempts = 0; earned = None; way = w }
 
 abbrev pub put_call : Call → Call
-put_call k = record { busy = true; since = None; attempts = k.attempts + 1; earned = k.earned }
+put_call k = record { busy = true; since = None; attempts = k.attempts + 1; earned = k.earned; way = k.way }
 
 -- the attempts of a step are counted anew after an OK
 abbrev pub attempts_after : Option Verdict → ℕ → ℕ
 attempts_after (Some (v.Ran s)) n = if is_ok s then 0 else n
 attempts_after w n = n
 
-abbrev pub took_call : ℕ → Plan → Option Verdict → Reply → Call → Call
-took_call m p w y k =
+abbrev pub walked_by : Command → List (List ℕ) → Option (List ℕ) → Way → Way
+walked_by c ns None w = w
+walked_by c ns (Some fh) w = walked c (length ns) fh w
+
+abbrev pub step_of : Option Command → Plan → Reply → Way → Way
+step_of (Some c) (plan.Walk from ns) y w = walked_by c ns (reached_in y.body) w
+step_of c p y w = w
+
+-- a walk that was answered OK leads on
+abbrev pub way_after : Option Command → Plan → Option Verdict → Reply → Way → Way
+way_after c p (Some (v.Ran s)) y w = if is_ok s then step_of c p y w else w
+way_after c p v y w = w
+
+abbrev pub took_call : ℕ → Option Command → Plan → Option Verdict → Reply → Call → Call
+took_call m c p w y k =
     if is_final y
-    then record { busy = false; since = if is_put_off_by w k.attempts then Some m else None; attempts = attempts_after w k.attempts; earned = answer_in p w k.attempts y }
+    then record {
+      busy = false;
+      since = if is_put_off_by w k.attempts then Some m else None;
+      attempts = attempts_after w k.attempts;
+      earned = answer_in p w k.attempts y;
+      way = way_after c p w y k.way;
+    }
     else k
 
 -- the command can go on: it has no answer yet, no request out, and is not in its two seconds
@@ -139,7 +260,7 @@ is_caller (Some d) c = d == c
 abbrev pub chosen : List Event → (ℕ → Call) → Plan → ℕ → Option ℕ
 chosen js calls p zero = None
 chosen js calls p (suc c) =
-    if is_ready_call (moment js) (command js c) (calls c) && is_plan (next_plan (command js c)) p
+    if is_ready_call (moment js) (command js c) (calls c) && is_plan (next_plan (walk_most (session js)) (command js c) (calls c).way) p
     then sooner js (chosen js calls p c) c
     else chosen js calls p c
 
@@ -174,16 +295,16 @@ put_ledger js n r s l =
 
 abbrev pub took_ledger : List Event → Reply → Option ℕ → Ledger → Ledger
 took_ledger js y o l =
-    record { calls = λ c. if is_caller o c then took_call (moment js) (plan_of js y) (verdict js y) y (l.calls c) else l.calls c; owners = l.owners }
+    record { calls = λ c. if is_caller o c then took_call (moment js) (command js c) (plan_of js y) (verdict js y) y (l.calls c) else l.calls c; owners = l.owners }
 
-abbrev pub began_ledger : ℕ → Ledger → Ledger
-began_ledger d l = record { calls = λ c. if d == c then fresh_call else l.calls c; owners = l.owners }
+abbrev pub began_ledger : ℕ → Command → Ledger → Ledger
+began_ledger d k l = record { calls = λ c. if d == c then fresh_call (way_of k) else l.calls c; owners = l.owners }
 
 -- A new request belongs, in phase Running, to the command that began first of those that are ready and whose next plan it is;
 -- otherwise it is the client's own. There are so many callers.
 abbrev pub ledger : ℕ → List Event → Ledger
-ledger n [] = record { calls = λ c. fresh_call; owners = λ s. None }
-ledger n (Began d k a m ∷ js) = began_ledger d (ledger n js)
+ledger n [] = record { calls = λ c. fresh_call (at_root None); owners = λ s. None }
+ledger n (Began d k a m ∷ js) = began_ledger d a (ledger n js)
 ledger n (Put c p r ∷ js) = put_ledger js n r (slot_number r.slot) (ledger n js)
 ledger n (Took c p y ∷ js) = took_ledger js y (owner_at (ledger n js).owners (slot_in (request js y.xid))) (ledger n js)
 ledger n (e ∷ js) = ledger n js
@@ -194,6 +315,10 @@ call n js c = (ledger n js).calls c
 
 abbrev pub owner : ℕ → List Event → ℕ → Option ℕ
 owner n js s = (ledger n js).owners s
+
+-- the next plan of a caller's command
+abbrev pub plan_next : ℕ → List Event → ℕ → Option Plan
+plan_next n js c = next_plan (walk_most (session js)) (command js c) (call n js c).way
 
 -- the command of a caller can go on
 abbrev pub is_ready : ℕ → List Event → ℕ → Bool

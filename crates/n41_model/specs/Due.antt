@@ -17,7 +17,7 @@ use Rattle.n41_model.specs.declared.words.Setup.{Setup}
 use Rattle.n41_model.specs.Answers.{round_limit}
 use Rattle.n41_model.specs.Requests.{standing, moment, quit, rounds, bares, bare, outs, out, used, sent, is_waiting, bare_waits}
 use Rattle.n41_model.specs.Sessions.{client, session, slots, bound, completed, phase, put_off, passed, free_slot, highest, is_empty, next_xid}
-use Rattle.n41_model.specs.Calls.{command, next_plan, owner, is_ready, all_answered}
+use Rattle.n41_model.specs.Calls.{plan_next, owner, is_ready, all_answered}
 
 -- after Quit, once every command is answered, only what ends the session and the client id is due
 abbrev pub finishing : ℕ → List Event → Bool
@@ -161,7 +161,7 @@ item_due u js item.Again = only_if (not (bare_waits js)) (bare js)
 item_due u js (item.Retry n) = only_if (may_retry u js n) (out js n)
 item_due u js item.Step = only_if (may_step u js) (with_plan (step_plan u js) (bare_due u js))
 item_due u js item.Own = only_if (may_own u js) (with_plan (own_plan js) (on_free_slot u js))
-item_due u js (item.Fresh c) = only_if (may_begin u js c) (with_plan (next_plan (command js c)) (on_free_slot u js))
+item_due u js (item.Fresh c) = only_if (may_begin u js c) (with_plan (plan_next u.callers js c) (on_free_slot u js))
 item_due u js item.Destroy = only_if (may_destroy u js) (with_plan (destroy_plan js) (bare_due u js))
 
 -- the standing connection carries requests

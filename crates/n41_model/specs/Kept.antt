@@ -13,7 +13,7 @@ use Rattle.n41_model.specs.declared.words.Item.{Item}
 use Rattle.n41_model.specs.declared.words.Sent.TheVariants.{Waits}
 use Rattle.n41_model.specs.declared.words.Setup.{Setup}
 use Rattle.n41_model.specs.Requests.{standing, dials, puts, takes, moment, quit, bare, bare_waits, bare_put_at, out, sent, put_at}
-use Rattle.n41_model.specs.Calls.{command, number, next_plan}
+use Rattle.n41_model.specs.Calls.{command, number, is_built}
 use Rattle.n41_model.specs.Answers.{HasCause}
 use Rattle.n41_model.specs.Due.{due}
 
@@ -24,7 +24,7 @@ pub record MayBegin (u : Setup) (js : List Event) (c n : ℕ) (k : Command) (m :
   pub idle : command js c ≡ None
   pub number_is : n ≡ suc (number js c)
   pub moment_is : m ≡ moment js
-  pub built : IsSome (next_plan (Some k))
+  pub built : is_built k ≡ true
 
 -- a request that is due goes on the standing connection, at its next place
 pub record MayPut (u : Setup) (js : List Event) (c p : ℕ) (r : Request) (i : Item) : Type 0 where

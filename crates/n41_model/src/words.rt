@@ -1,6 +1,6 @@
 use bytes::Bytes;
 use n41_results::SessionMade;
-use n41_types::Status;
+use n41_types::{Place, Status};
 
 /// Who a client is. `callers` is from 1 to 64, and the owner has at most 1,024 bytes.
 #[derive(Debug, Drop)]
@@ -101,6 +101,17 @@ pub enum BareVerdict {
     Delayed,
     /// A server that keeps the rules answers no such thing.
     Breach,
+}
+
+/// How far the walk of a command has come (own).
+#[derive(Drop, PartialEq, Eq)]
+pub struct Way {
+    /// The file that was reached.
+    pub at: Place,
+    /// How many names lie behind it.
+    pub walked: u64,
+    /// The directory of a rename's old name, once the walk to it is done.
+    pub old: Option<Place>,
 }
 
 /// A kind of request that may be due.

@@ -2,8 +2,8 @@
 use Rattle.std.proofs.Common.{◌≡◌, ℕ, List, inl, sym, subst}
 use Rattle.std.specs.declared.option.Option.{Option}
 use Rattle.n41_script.specs.Scripts.{IsFault, script_limit}
-use Rattle.n41_script.specs.declared.fault.ScriptFault.{ScriptFault}
-use Rattle.n41_script.specs.declared.fault.ScriptFault.TheVariants as refused
+use Rattle.n41_words.specs.declared.fault.ScriptFault.{ScriptFault}
+use Rattle.n41_words.specs.declared.fault.ScriptFault.TheVariants as refused
 use Rattle.n41_streams.specs.Streams.{IsRead}
 use Rattle.n41_perform.specs.declared.fault.PerformFault.{PerformFault}
 use Rattle.n41_perform.specs.Performs.{ReadFails, of_script}

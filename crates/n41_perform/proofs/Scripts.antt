@@ -4,40 +4,97 @@ use Rattle.std.proofs.lemmas.Bool.Decides.{nat_tests}
 use Rattle.std.specs.Prelude.{IfOk, IsSome, nat_le, is_some}
 use Rattle.n41_types.specs.declared.commands.Command.{Command}
 use Rattle.n41_types.specs.declared.commands.Command.TheVariants as command
-use Rattle.n41_model.specs.Calls.{next_plan}
-use Rattle.n41_script.specs.Lines.{lines, words, is_skipped, is_long, readable}
-use Rattle.n41_script.specs.Words.{has_control, same}
-use Rattle.n41_script.specs.Callers.{is_caller, is_kept, is_too_many, place, caller_limit, caller}
-use Rattle.n41_script.specs.Commands.{command_of, stat, ended}
+use Rattle.n41_model.specs.Calls.{is_built, is_none_left}
+use Rattle.n41_words.specs.Lines.{lines, words, is_skipped, is_empty}
+use Rattle.n41_words.specs.Words.{has_control}
+use Rattle.n41_commands.specs.Callers.{is_caller, is_kept}
+use Rattle.n41_commands.specs.Commands.{next, ended, command_with, onward, verb_of}
+use Rattle.n41_commands.specs.Paths.{path, target, named}
+use Rattle.n41_commands.specs.declared.verb.Verb.{Verb}
+use Rattle.n41_commands.specs.declared.verb.Verb.TheVariants as verb
+use Rattle.n41_script.specs.Lines.{is_long, readable}
+use Rattle.n41_script.specs.Callers.{is_too_many, place, caller_limit, caller}
+use Rattle.n41_script.specs.Commands.{command_of, built_verb, room_for}
+use Rattle.n41_script.specs.Commands as script
 use Rattle.n41_script.specs.Scripts.{Said, nothing, is_full, with_command, after_words, then_line, after_lines, IsScript}
-use Rattle.n41_script.specs.declared.fault.LineKind.{LineKind}
+use Rattle.n41_words.specs.declared.fault.LineKind.{LineKind}
+use Rattle.n41_words.specs.declared.fault.LineKind.TheVariants as kind
 use Rattle.n41_script.specs.declared.script.Script.{Script}
 use Rattle.n41_script.specs.declared.script.ScriptLine.{ScriptLine}
 use Rattle.n41_drive.specs.Drives.{AreBuilt}
 
-either_built : (b : Bool) (x y : Result Command LineKind) → IfOk x (λ k. IsSome (next_plan (Some k))) → IfOk y (λ k. IsSome (next_plan (Some k))) → IfOk (if b then x else y) (λ k. IsSome (next_plan (Some k)))
+-- what is said is a command that is built
+abbrev Built : Result Command LineKind → Type 0
+Built r = IfOk r (λ k. is_built k ≡ true)
+
+either_built : (b : Bool) (x y : Result Command LineKind) → Built x → Built y → Built (if b then x else y)
 either_built true x y g h = g
 either_built false x y g h = h
 
-ended_built : (long : Bool) (ws : List (List ℕ)) → IfOk (ended long ws (command.Stat [])) (λ k. IsSome (next_plan (Some k)))
-ended_built true [] = tt
-ended_built false [] = refl
-ended_built long (w ∷ ws) = tt
+onward_built : {X : Type 0} (r : Result X LineKind) (go : X → Result Command LineKind) → ((x : X) → r ≡ Ok x → Built (go x)) → Built (onward r go)
+onward_built (Ok x) go h = h x refl
+onward_built (Err k) go h = tt
 
-stat_built : (long : Bool) (ws : List (List ℕ)) → IfOk (stat long ws) (λ k. IsSome (next_plan (Some k)))
-stat_built long [] = tt
-stat_built long (w ∷ ws) = either_built (has_control w) _ _ tt (either_built (same w _) _ _ (ended_built long ws) tt)
+next_built : {X : Type 0} (long : Bool) (ws : List (List ℕ)) (form : List ℕ → Result X LineKind) (go : X → List (List ℕ) → Result Command LineKind) → ((w : List ℕ) (x : X) (vs : List (List ℕ)) → form w ≡ Ok x → Built (go x vs)) → Built (next long ws form go)
+next_built long [] form go h = tt
+next_built long (w ∷ vs) form go h = either_built (has_control w) _ _ tt (onward_built (form w) (λ x. go x vs) (λ x e. h w x vs e))
 
-command_built : (full long : Bool) (ws : List (List ℕ)) → IfOk (command_of full long ws) (λ k. IsSome (next_plan (Some k)))
+ended_built : (long : Bool) (ws : List (List ℕ)) (k : Command) → is_built k ≡ true → Built (ended long ws k)
+ended_built true [] k h = tt
+ended_built false [] k h = h
+ended_built long (w ∷ ws) k h = tt
+
+ok_same : {X : Type 0} (x y : X) → ◌≡◌ {A = Result X LineKind} (Ok x) (Ok y) → x ≡ y
+ok_same x y e = cc
+
+-- a target has a name
+some_left : (p : List (List ℕ)) → is_empty p ≡ false → not (is_none_left p) ≡ true
+some_left [] e = absurd (cc)
+some_left (n ∷ ns) e = refl
+
+named_some : (b : Bool) (p q : List (List ℕ)) → is_empty p ≡ b → (if b then Err kind.Path else Ok p) ≡ Ok q → not (is_none_left q) ≡ true
+named_some true p q e h = absurd (cc)
+named_some false p q e h = subst (λ (x : List (List ℕ)). not (is_none_left x) ≡ true) (ok_same p q h) (some_left p e)
+
+named_is : (r : Result (List (List ℕ)) LineKind) (q : List (List ℕ)) → named r ≡ Ok q → not (is_none_left q) ≡ true
+named_is (Ok p) q h = named_some (is_empty p) p q refl h
+named_is (Err k) q h = absurd (cc)
+
+target_some : (w : List ℕ) (q : List (List ℕ)) → target w ≡ Ok q → not (is_none_left q) ≡ true
+target_some w q h = named_is (path w) q h
+
+both : (a b : Bool) → a ≡ true → b ≡ true → (a && b) ≡ true
+both true b g h = h
+both false b g h = absurd (cc)
+
+with_built : (v : Verb) (long : Bool) (ws : List (List ℕ)) → script.is_built v ≡ true → Built (command_with v long ws)
+with_built verb.Stat long ws h = next_built long ws path _ (λ w p vs e. ended_built long vs (command.Stat p) refl)
+with_built verb.MakeDir long ws h = next_built long ws target _ (λ w p vs e. ended_built long vs (command.MakeDir p) (target_some w p e))
+with_built verb.Remove long ws h = next_built long ws target _ (λ w p vs e. ended_built long vs (command.Remove p) (target_some w p e))
+with_built verb.Rename long ws h =
+    next_built long ws target _ (λ w p vs e. next_built long vs target _ (λ u q us f. ended_built long us (command.Rename p q) (both _ _ (target_some w p e) (target_some u q f))))
+with_built v long ws h = absurd (cc)
+
+verb_built : (b : Bool) (u v : Verb) → script.is_built u ≡ b → (if b then Ok u else Err kind.Command) ≡ Ok v → script.is_built v ≡ true
+verb_built true u v e h = subst (λ (x : Verb). script.is_built x ≡ true) (ok_same u v h) e
+verb_built false u v e h = absurd (cc)
+
+verb_of_built : (r : Result Verb LineKind) (v : Verb) → onward r (λ u. if script.is_built u then Ok u else Err kind.Command) ≡ Ok v → script.is_built v ≡ true
+verb_of_built (Ok u) v h = verb_built (script.is_built u) u v refl h
+verb_of_built (Err k) v h = absurd (cc)
+
+command_built : (full long : Bool) (ws : List (List ℕ)) → Built (command_of full long ws)
 command_built full long [] = tt
-command_built full long (w ∷ ws) = either_built (has_control w) _ _ tt (either_built (same w _) _ _ (either_built full _ _ tt (stat_built long ws)) tt)
+command_built full long (w ∷ ws) =
+    either_built (has_control w) _ _ tt
+    (onward_built (built_verb w) (λ v. room_for full long ws v) (λ v e. either_built full _ _ tt (with_built v long ws (verb_of_built (verb_of w) v e))))
 
 -- few callers, and commands that are built
 record Fine (s : Said) : Type 0 where
   few : length s.callers ≤ caller_limit
   built : AreBuilt s.lines
 
-built_more : (ls : List ScriptLine) (l : ScriptLine) → AreBuilt ls → IsSome (next_plan (Some l.command)) → AreBuilt (ls ++ l ∷ [])
+built_more : (ls : List ScriptLine) (l : ScriptLine) → AreBuilt ls → is_built l.command ≡ true → AreBuilt (ls ++ l ∷ [])
 built_more [] l h k = (k, tt)
 built_more (x ∷ ls) l h k = (h.0, built_more ls l h.1 k)
 
@@ -47,7 +104,7 @@ few_with false names word e l =
     let h : length (names ++ word ∷ []) ≡ length names + 1 = length-append names (word ∷ []) in
     grind (arith, nat_tests, e, l, h)
 
-command_fine : (s : Said) (word : List ℕ) (r : Result Command LineKind) → is_too_many s.callers word ≡ false → Fine s → IfOk r (λ k. IsSome (next_plan (Some k))) → IfOk (with_command s word r) Fine
+command_fine : (s : Said) (word : List ℕ) (r : Result Command LineKind) → is_too_many s.callers word ≡ false → Fine s → IfOk r (λ k. is_built k ≡ true) → IfOk (with_command s word r) Fine
 command_fine s word (Ok k) e f h = record { few = few_with (is_some (place s.callers word)) s.callers word e f.few; built = built_more s.lines (record { caller = caller s.callers word; command = k }) f.built h }
 command_fine s word (Err x) e f h = tt
 

@@ -13,10 +13,10 @@ use Rattle.n41_model.specs.Text.{text}
 use Rattle.n41_core.specs.Settled.{IsSettled}
 use Rattle.n41_script.specs.Scripts.{IsScript, IsFault, script_limit}
 use Rattle.n41_script.specs.declared.script.Script.{Script}
-use Rattle.n41_script.specs.declared.fault.LineKind.{LineKind}
-use Rattle.n41_script.specs.declared.fault.LineKind.TheVariants.{Limit}
-use Rattle.n41_script.specs.declared.fault.ScriptFault.{ScriptFault}
-use Rattle.n41_script.specs.declared.fault.ScriptFault.TheVariants as refused
+use Rattle.n41_words.specs.declared.fault.LineKind.{LineKind}
+use Rattle.n41_words.specs.declared.fault.LineKind.TheVariants.{Limit}
+use Rattle.n41_words.specs.declared.fault.ScriptFault.{ScriptFault}
+use Rattle.n41_words.specs.declared.fault.ScriptFault.TheVariants as refused
 use Rattle.n41_report.specs.Text.{script_lines}
 use Rattle.n41_streams.specs.declared.reading.ReadFault.{ReadFault}
 use Rattle.n41_streams.specs.declared.reading.ReadFault.TheVariants as unread

@@ -1,14 +1,14 @@
 -- Whose a new request is, and what a call becomes, event by event.
-use Rattle.std.proofs.Common.{◌≡◌, ◌≢◌, ℕ, suc, ◌+◌, ◌==◌, Bool, true, false, ◌&&◌, List, ◌∷◌, Option, Some, None, if◌then◌else◌, refl, add-one}
+use Rattle.std.proofs.Common.{◌≡◌, ◌≢◌, ℕ, ◌+◌, true, false, ◌&&◌, List, ◌∷◌, Option, Some, None, if◌then◌else◌, refl, add-one}
 use Rattle.n41_types.specs.declared.plans.Plan.{Plan}
 use Rattle.n41_types.specs.declared.plans.Request.{Request}
-use Rattle.n41_results.specs.declared.replies.Reply.{Reply}
 use Rattle.n41_journal.specs.declared.events.Event.{Event}
-use Rattle.n41_journal.specs.declared.events.Event.TheVariants.{Put, Took}
+use Rattle.n41_journal.specs.declared.events.Event.TheVariants.{Put}
 use Rattle.n41_model.specs.declared.words.Phase.{Phase}
 use Rattle.n41_model.specs.declared.words.Phase.TheVariants.{Down, Binding, Session, ClientId, Settling, Reclaiming, Completing, Running, Dead}
 use Rattle.n41_model.specs.Requests.{moment, is_on, slot_number}
-use Rattle.n41_model.specs.Calls.{Call, call, owner, put_call, is_new, is_caller, is_ready_call, is_plan, next_plan, command, chosen, sooner, in_running, ledger}
+use Rattle.n41_model.specs.Sessions.{session}
+use Rattle.n41_model.specs.Calls.{Call, call, owner, put_call, is_new, is_caller, is_ready_call, is_plan, walk_most, next_plan, command, chosen, sooner, in_running}
 use Rattle.n41_model.specs.declared.words.Setup.{Setup}
 use Rattle.n41_model.specs.Due.{phase_plan, destroy_in}
 use Rattle.n41_model.specs.declared.words.KnownClient.{KnownClient}
@@ -40,7 +40,7 @@ owner_new n js c p r s e = rw (e, owner) refl
 pub owner_again : (n : ℕ) (js : List Event) (c p : ℕ) (r : Request) (s : ℕ) → is_new js r (slot_number r.slot) ≡ false → owner n (Put c p r ∷ js) s ≡ owner n js s
 owner_again n js c p r s e = rw (e, owner) refl
 
-pub chosen_step : (js : List Event) (f : ℕ → Call) (p : Plan) (c : ℕ) → chosen js f p (c + 1) ≡ (if is_ready_call (moment js) (command js c) (f c) && is_plan (next_plan (command js c)) p then sooner js (chosen js f p c) c else chosen js f p c)
+pub chosen_step : (js : List Event) (f : ℕ → Call) (p : Plan) (c : ℕ) → chosen js f p (c + 1) ≡ (if is_ready_call (moment js) (command js c) (f c) && is_plan (next_plan (walk_most (session js)) (command js c) (f c).way) p then sooner js (chosen js f p c) c else chosen js f p c)
 chosen_step js f p c = rw (add-one c) refl
 
 -- without an EXCHANGE_ID the plan of the phase is made of what is kept

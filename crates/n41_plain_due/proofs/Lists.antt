@@ -1,12 +1,12 @@
 -- The lists of what is out, item by item.
-use Rattle.std.proofs.Common.{◌≡◌, ◌≢◌, ℕ, zero, suc, ◌+◌, ◌-◌, ◌<◌, ◌≤◌, ◌==◌, Bool, true, false, not, List, [], ◌∷◌, ◌++◌, length, drop, filter, slice_get, Option, Some, None, if◌then◌else◌, refl, sym, ◌∙◌, ap, subst, arith}
+use Rattle.std.proofs.Common.{◌≡◌, ◌≢◌, ℕ, zero, suc, ◌+◌, ◌-◌, ◌<◌, ◌≤◌, Bool, true, false, List, [], ◌∷◌, length, drop, slice_get, Some, None, if◌then◌else◌, refl, arith}
 use Rattle.std.proofs.lemmas.Bool.Decides.{nat_tests}
 use Rattle.n41_types.specs.declared.plans.Request.{Request}
 use Rattle.n41_journal.specs.declared.events.Event.{Event}
 use Rattle.n41_journal.specs.declared.events.Event.TheVariants.{Put, Took}
 use Rattle.std.specs.Prelude.{is_some}
 use Rattle.n41_model.specs.Replies.{is_final}
-use Rattle.n41_model.specs.Requests.{outs, bares, knows, has_xid, without, joined, first, made, is_on, is_bare}
+use Rattle.n41_model.specs.Requests.{outs, bares, knows, has_xid, without, first, made, is_on, is_bare}
 use Rattle.n41_model.specs.Sessions.{is_empty}
 
 -- ---- lengths

@@ -2,17 +2,21 @@ ghost use Rattle.std.specs.Prelude.{◌≡◌, ◌≤◌, ◌+◌, length, optio
 ghost use Rattle.n41_model.specs.Requests.{moment};
 ghost use Rattle.n41_model.specs.Sessions.{phase};
 ghost use Rattle.n41_model.specs.Due.{own_from, any_own};
-ghost use Rattle.n41_model.specs.Calls.{command, number, began_at, next_plan, is_plan, is_ready_call, sooner, is_caller, chosen, in_running, is_new, slot_in, owner_at, ledger, call, owner, is_ready, all_answered};
+ghost use Rattle.n41_model.specs.Calls.{command, number, began_at, plan_next, is_ready_call, sooner, is_caller, chosen, in_running, is_new, slot_in, owner_at, ledger, call, owner, is_ready, all_answered};
 ghost use Rattle.n41_model.specs.Requests.{request, slot_number};
+ghost use Rattle.n41_plain.specs.Nexts.{planned};
 ghost use Rattle.n41_plain_due.specs.Ledgers.{call_of, new_owner};
 
 use crate::outs::is_vacant;
 use crate::progress::{Progress, fresh, put_progress, took_progress};
 use n41_journal::Event;
 use n41_model::Phase;
-use n41_plain::{is_on, is_out, moment, newest, passed, phase, plan_of, request, slots, verdict};
+use n41_plain::{
+    Next, at_root, is_on, is_out, is_plan, moment, newest, next_plan, passed, phase, plan_of,
+    request, session, slots, verdict, walk_most, way_of,
+};
 use n41_results::Reply;
-use n41_types::{Command, Place, Plan, Request};
+use n41_types::{Command, Plan, Request};
 
 /// The command of a caller that is unanswered.
 pub fn command(events: &[Event], caller: u32) -> Option<&Command>
@@ -61,31 +65,8 @@ pub fn began_at(events: &[Event], caller: u32) -> u64
     }
 }
 
-/// The next plan of a command.
-pub fn next_plan(command: Option<&Command>) -> Option<Plan>
-    ensures { result ≡ next_plan (option_copied command.entry) }
-{
-    let Some(Command::Stat { path }) = command else {
-        return None;
-    };
-    match path.as_slice() {
-        [] => Some(Plan::Stat { at: Place::Root }),
-        _ => None,
-    }
-}
-
-/// Whether a request with this plan is the next one.
-pub fn is_plan(next: Option<Plan>, plan: &Plan) -> bool
-    ensures { result ≡ is_plan next plan.now }
-{
-    match next {
-        None => false,
-        Some(next) => next == *plan,
-    }
-}
-
 /// Whether the command can go on: it has no answer yet, no request out, and is not in its two seconds.
-fn is_ready_call(moment: u64, command: Option<&Command>, known: &Progress) -> bool
+fn is_ready_call(moment: u64, command: Option<&Command>, known: &Progress<'_>) -> bool
     ensures { result ≡ is_ready_call moment (option_copied command.entry) (call_of known.now) }
 {
     match command {
@@ -140,13 +121,6 @@ fn is_new(events: &[Event], request: &Request) -> bool
     }
 }
 
-/// Whether a caller's next request has this plan.
-fn is_next(events: &[Event], caller: u32, plan: &Plan) -> bool
-    ensures { result ≡ is_plan (next_plan (command events.now caller)) plan.now }
-{
-    is_plan(next_plan(command(events, caller)), plan)
-}
-
 /// The caller whose ready command began first, of those below this one whose next plan this is.
 #[cycle(ledger)]
 #[tactic(auto, using(crate::proofs::Ledgers::chosen_step))]
@@ -156,9 +130,9 @@ fn chosen(callers: u32, events: &[Event], plan: &Plan, below: u32) -> Option<u32
     let mut best = None;
     for caller in 0..below {
         let known = call(callers, events, caller);
-        if is_ready_call(moment(events), command(events, caller), &known)
-            && is_next(events, caller, plan)
-        {
+        let command = command(events, caller);
+        let next = next_plan(walk_most(session(events)), command, &known.way);
+        if is_ready_call(moment(events), command, &known) && is_plan(next, plan) {
             best = sooner(events, best, caller);
         }
     }
@@ -216,15 +190,19 @@ fn reply_owner(callers: u32, events: &[Event], reply: &Reply) -> Option<u32>
 /// What is known of the unanswered command of a caller, of so many callers.
 #[cycle(ledger)]
 #[tactic(auto, using(crate::proofs::Ledgers::put_new, crate::proofs::Ledgers::put_again))]
-pub fn call(callers: u32, events: &[Event], caller: u32) -> Progress
+pub fn call(callers: u32, events: &[Event], caller: u32) -> Progress<'_>
     ensures value { call_of result ≡ call callers events.now caller }
     ensures bound { result.attempts ≤ length events.now }
 {
     let Some((newest, older)) = newest(events) else {
-        return fresh();
+        return fresh(at_root(None));
     };
     match newest {
-        Event::Began { caller: who, .. } if *who == caller => fresh(),
+        Event::Began {
+            caller: who,
+            command,
+            ..
+        } if *who == caller => fresh(way_of(command)),
         Event::Put { request, .. } => {
             let known = call(callers, older, caller);
             if is_new(older, request) && is_caller(new_owner(callers, older, request), caller) {
@@ -238,6 +216,7 @@ pub fn call(callers: u32, events: &[Event], caller: u32) -> Progress
             if is_caller(reply_owner(callers, older, reply), caller) {
                 took_progress(
                     moment(older),
+                    command(older, caller),
                     plan_of(older, reply),
                     verdict(older, reply),
                     reply,
@@ -249,6 +228,17 @@ pub fn call(callers: u32, events: &[Event], caller: u32) -> Progress
         }
         _ => call(callers, older, caller),
     }
+}
+
+/// The next plan of a caller's command, of so many callers.
+pub fn plan_next(callers: u32, events: &[Event], caller: u32) -> Option<Next<'_>>
+    ensures { planned result ≡ plan_next callers events.now caller }
+{
+    next_plan(
+        walk_most(session(events)),
+        command(events, caller),
+        &call(callers, events, caller).way,
+    )
 }
 
 /// Whether the command of a caller can go on.

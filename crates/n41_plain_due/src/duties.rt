@@ -1,10 +1,10 @@
 ghost use Rattle.std.specs.Prelude.{◌≡◌, ◌<◌, not, is_none, option_copied, IfOk};
 ghost use Rattle.n41_model.specs.Requests.{used, bare, bare_waits, out};
 ghost use Rattle.n41_model.specs.Due.{finishing, is_dead, is_running, is_session, bare_request, slot_request, on_free_slot, goes_again, phase_plan, step_plan, own_plan_in, own_plan, destroy_in, destroy_plan, only_if, with_plan, bare_due, may_retry, may_step, may_own, may_begin, may_destroy, item_due, is_open, due, is_over, has_ended};
-ghost use Rattle.n41_plain_due.specs.Ledgers.{kept_plan};
+ghost use Rattle.n41_plain_due.specs.Ledgers.{kept_plan, next_use};
 ghost use Rattle.n41_model.specs.declared.words.Item.TheVariants as item;
 
-use crate::calls::{all_answered, any_own, command, is_ready, next_plan};
+use crate::calls::{all_answered, any_own, is_ready, plan_next};
 use crate::outs::{bare, is_bare_vacant, out};
 use crate::slots::{any_waits, free_slot, highest, next_xid};
 use n41_journal::Event;
@@ -15,6 +15,7 @@ use n41_plain::{
 };
 use n41_results::SessionMade;
 use n41_types::{NoMemory, Plan, Request, SlotUse};
+use std::alloc::Global;
 
 /// Whether only what ends the session and the client id is due: after Quit, once every command is answered.
 fn is_finishing(callers: u32, events: &[Event]) -> bool
@@ -55,6 +56,21 @@ fn bare_request(setup: &Setup, plan: Plan, xid: u32) -> Request
     }
 }
 
+/// The next turn on a slot of a session, for a request with this plan.
+pub fn next_use(events: &[Event], made: &SessionMade, slot: u32, plan: &Plan) -> SlotUse
+    requires { used events.now slot < 4294967295 }
+    ensures { result ≡ next_use events.now made.now slot plan.now }
+{
+    let turn = used(events, slot) + 1;
+    SlotUse {
+        sid: made.sid,
+        slot,
+        turn,
+        highest: highest(events, slot),
+        cache: plan.is_cached(),
+    }
+}
+
 /// A new request on a slot of a session.
 fn slot_request(
     setup: &Setup,
@@ -67,14 +83,7 @@ fn slot_request(
     requires { used events.now slot < 4294967295 }
     ensures { result ≡ slot_request setup.now events.now made.now slot plan xid }
 {
-    let turn = used(events, slot) + 1;
-    let place = SlotUse {
-        sid: made.sid,
-        slot,
-        turn,
-        highest: highest(events, slot),
-        cache: plan.is_cached(),
-    };
+    let place = next_use(events, made, slot, &plan);
     Request {
         xid,
         uid: setup.uid,
@@ -217,7 +226,8 @@ fn may_own(setup: &Setup, events: &[Event]) -> bool
         && !any_own(setup.callers, events)
 }
 
-fn may_begin(setup: &Setup, events: &[Event], caller: u32) -> bool
+/// Whether the next request of a caller's command may go.
+pub fn may_begin(setup: &Setup, events: &[Event], caller: u32) -> bool
     ensures { result ≡ may_begin setup.now events.now caller }
 {
     !is_finishing(setup.callers, events)
@@ -282,16 +292,21 @@ pub fn own_due(setup: &Setup, events: &[Event]) -> Option<Request>
 }
 
 /// The next request of a caller's command, where it may go.
-pub fn fresh_due(setup: &Setup, events: &[Event], caller: u32) -> Option<Request>
-    ensures { result ≡ item_due setup.now events.now (item.Fresh caller) }
+pub fn fresh_due(
+    alloc: Global,
+    setup: &Setup,
+    events: &[Event],
+    caller: u32,
+) -> Result<Option<Request>, NoMemory>
+    ensures { IfOk result (λ o. o ≡ item_due setup.now events.now (item.Fresh caller)) }
 {
     if !may_begin(setup, events, caller) {
-        return None;
+        return Ok(None);
     }
-    match next_plan(command(events, caller)) {
+    Ok(match plan_next(setup.callers, events, caller) {
         None => None,
-        Some(plan) => on_free_slot(setup, events, plan),
-    }
+        Some(next) => on_free_slot(setup, events, next.plan(alloc)?),
+    })
 }
 
 /// The request that gives up the session or the client id, where it may go.
@@ -325,7 +340,12 @@ fn copied(request: Option<&Request>) -> Result<Option<Request>, NoMemory>
 }
 
 /// The request of this kind that is due on the standing connection.
-pub fn due(setup: &Setup, events: &[Event], item: Item) -> Result<Option<Request>, NoMemory>
+pub fn due(
+    alloc: Global,
+    setup: &Setup,
+    events: &[Event],
+    item: Item,
+) -> Result<Option<Request>, NoMemory>
     ensures { IfOk result (λ o. o ≡ due setup.now events.now item) }
 {
     if !is_open(events) {
@@ -336,7 +356,7 @@ pub fn due(setup: &Setup, events: &[Event], item: Item) -> Result<Option<Request
         Item::Retry(slot) => copied(retry_due(setup, events, slot)),
         Item::Step => step_due(setup, events),
         Item::Own => Ok(own_due(setup, events)),
-        Item::Fresh(caller) => Ok(fresh_due(setup, events, caller)),
+        Item::Fresh(caller) => fresh_due(alloc, setup, events, caller),
         Item::Destroy => Ok(destroy_due(setup, events)),
     }
 }

@@ -1,11 +1,13 @@
 ghost use Rattle.std.specs.Prelude.{◌≡◌, ◌≤◌, ◌+◌, ◌-◌, ◌<◌, ◌^◌, option_copied};
 ghost use Rattle.n41_plain.specs.Plans.{plan_or};
-ghost use Rattle.n41_model.specs.Calls.{value_of_attrs, stat_value, value_of, done_with, is_again, answer_in, is_put_off_by, fresh_call, put_call, attempts_after, took_call};
+ghost use Rattle.n41_plain.specs.Walks.{way_at};
+ghost use Rattle.n41_model.specs.Calls.{value_of_attrs, stat_value, body_value, value_of, done_with, is_again, answer_in, is_put_off_by, fresh_call, put_call, attempts_after, took_call};
 ghost use Rattle.n41_plain_due.specs.Ledgers.{call_of};
 
 use n41_model::{Verdict, is_final};
+use n41_plain::{Track, way_after};
 use n41_results::{Reply, ReplyBody, Res};
-use n41_types::{Answer, Attrs, Plan, Status, Value};
+use n41_types::{Answer, Attrs, Command, Plan, Status, Value};
 
 /// The value that the attributes of a file tell, where they tell its type and its size.
 fn value_of_attrs(attrs: &Attrs) -> Option<Value>
@@ -32,16 +34,26 @@ fn stat_value(results: &[Res]) -> Option<Value>
     }
 }
 
+/// The value that a reply with this body spells to a request with this plan. A walk has none of its own.
+fn body_value(plan: &Plan, body: &ReplyBody) -> Option<Value>
+    ensures { result ≡ body_value plan.now body.now }
+{
+    match (plan, body) {
+        (Plan::Stat { .. }, ReplyBody::Results { list, .. }) => stat_value(list.as_slice()),
+        (Plan::MakeDir { .. }, ReplyBody::Results { .. }) => Some(Value::Made),
+        (Plan::Remove { .. }, ReplyBody::Results { .. }) => Some(Value::Removed),
+        (Plan::Rename { .. }, ReplyBody::Results { .. }) => Some(Value::Renamed),
+        _ => None,
+    }
+}
+
 /// The value that the reply to the last request of a command spells.
 pub fn value_of(plan: Option<&Plan>, reply: &Reply) -> Option<Value>
     ensures { result ≡ value_of (plan_or (option_copied plan.entry)) reply.now }
 {
-    let Some(Plan::Stat { .. }) = plan else {
-        return None;
-    };
-    match &reply.body {
-        ReplyBody::Results { list, .. } => stat_value(list.as_slice()),
-        _ => None,
+    match plan {
+        None => None,
+        Some(plan) => body_value(plan, &reply.body),
     }
 }
 
@@ -108,8 +120,8 @@ fn attempts_after(verdict: Option<Verdict>, attempts: u64) -> u64
 }
 
 /// What is known of the unanswered command of a caller.
-#[derive(Drop, PartialEq, Eq)]
-pub struct Progress {
+#[derive(Drop)]
+pub struct Progress<'a> {
     /// A request of it is out.
     pub busy: bool,
     /// The moment of a DELAY or GRACE, in seconds, while no new attempt was made.
@@ -118,11 +130,13 @@ pub struct Progress {
     pub attempts: u64,
     /// The answer that its last reply gives.
     pub earned: Option<Answer>,
+    /// How far its walk has come.
+    pub way: Track<'a>,
 }
 
-/// What is known of a command that began now.
-pub fn fresh() -> Progress
-    ensures value { call_of result ≡ fresh_call }
+/// What is known of a command that began now, with this way.
+pub fn fresh(way: Track<'_>) -> Progress<'_>
+    ensures value { call_of result ≡ fresh_call (way_at way.entry) }
     ensures bound { result.attempts ≡ 0 }
 {
     Progress {
@@ -130,33 +144,36 @@ pub fn fresh() -> Progress
         since: None,
         attempts: 0,
         earned: None,
+        way,
     }
 }
 
 /// What is known once a new request of it is out.
-pub fn put_progress(known: Progress) -> Progress
+pub fn put_progress(known: Progress<'_>) -> Progress<'_>
     requires { known.attempts < 2 ^ 64 - 1 }
-    ensures value { call_of result ≡ put_call (call_of known) }
-    ensures bound { result.attempts ≡ known.attempts + 1 }
+    ensures value { call_of result ≡ put_call (call_of known.entry) }
+    ensures bound { result.attempts ≡ known.entry.attempts + 1 }
 {
     Progress {
         busy: true,
         since: None,
         attempts: known.attempts + 1,
         earned: known.earned,
+        way: known.way,
     }
 }
 
 /// What is known once a request of it has a reply.
-pub fn took_progress(
+pub fn took_progress<'a>(
     moment: u64,
+    command: Option<&Command>,
     plan: Option<&Plan>,
     verdict: Option<Verdict>,
-    reply: &Reply,
-    known: Progress,
-) -> Progress
-    ensures value { call_of result ≡ took_call moment (plan_or (option_copied plan.entry)) verdict reply.now (call_of known) }
-    ensures bound { result.attempts ≤ known.attempts }
+    reply: &'a Reply,
+    known: Progress<'a>,
+) -> Progress<'a>
+    ensures value { call_of result ≡ took_call moment (option_copied command.entry) (plan_or (option_copied plan.entry)) verdict reply.now (call_of known.entry) }
+    ensures bound { result.attempts ≤ known.entry.attempts }
 {
     if !is_final(reply) {
         return known;
@@ -170,5 +187,6 @@ pub fn took_progress(
         },
         attempts: attempts_after(verdict, known.attempts),
         earned: answer_in(plan, verdict, known.attempts, reply),
+        way: way_after(command, plan, verdict, reply, known.way),
     }
 }

@@ -32,7 +32,7 @@ fn make_request(alloc: Global, moment: u64) -> Result<Request, NoMemory>
 #[tactic(auto, unfolding(crate::specs::Probes::request))]
 pub(crate) fn call_of(alloc: Global, moment: u64) -> Result<Bytes, NoMemory>
     ensures spelled { IfOk result (λ call. call ≡ request moment) }
-    ensures short { IfOk result (λ call. length call ≤ 2000) }
+    ensures short { IfOk result (λ call. length call ≤ 4000) }
 {
     let q = make_request(alloc, moment)?;
     spell(alloc, &q)

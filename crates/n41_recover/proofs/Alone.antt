@@ -18,7 +18,8 @@ use Rattle.n41_model.specs.declared.words.Setup.{Setup}
 use Rattle.n41_model.specs.Replies.{is_final}
 use Rattle.n41_model.specs.Requests.{outs, out, bares, bare, bare_waits, moment, made, is_on, is_bare, has_xid}
 use Rattle.n41_model.specs.Sessions.{session, slots, free_slot, next_xid, phase, put_off, passed, is_lease_time, is_empty}
-use Rattle.n41_model.specs.Calls.{command, next_plan, owner}
+use Rattle.n41_model.specs.Calls.{command, call, plan_next, walk_most, owner}
+use Rattle.n41_recover.proofs.Plans.{NotLease, next_not}
 use Rattle.n41_model.specs.Kept.{Kept, May}
 use Rattle.n41_model.specs.Due.{item_due, with_plan, on_free, on_free_slot, bare_with, bare_due, step_plan, own_plan, destroy_plan, finishing, own_from, any_own, may_retry, may_step, may_own, may_begin, may_destroy, is_open}
 use Rattle.n41_model.proofs.Slots.{Seats, seats}
@@ -55,31 +56,10 @@ free_plan u js p (Some m) (Some n) (Some x) r e = let d = some_same e in ap (λ 
   some_same : {a b : Request} → Some a ≡ Some b → a ≡ b
   some_same h = cc
 
-none_plan : (u : Setup) (js : List Event) (o : Option Plan) (r : Request) → o ≡ None → with_plan o (on_free_slot u js) ≡ Some r → is_lease_time r.plan ≡ false
-none_plan u js None r h e = absurd (cc)
-none_plan u js (Some p) r h e = absurd (cc)
-
-stat_plan : (u : Setup) (js : List Event) (r : Request) → on_free_slot u js (plan.Stat Root) ≡ Some r → is_lease_time r.plan ≡ false
-stat_plan u js r e = let d = free_plan u js (plan.Stat Root) (session js) (free_slot js) (next_xid js) r e in ap (λ (p : Plan). is_lease_time p) d
-
-fresh_plan : (u : Setup) (js : List Event) (k : Option Command) (r : Request) → with_plan (next_plan k) (on_free_slot u js) ≡ Some r → is_lease_time r.plan ≡ false
-fresh_plan u js None r e = none_plan u js None r refl e
-fresh_plan u js (Some (asks.Create a b c)) r e = none_plan u js None r refl e
-fresh_plan u js (Some (asks.OpenFile a b c)) r e = none_plan u js None r refl e
-fresh_plan u js (Some (asks.Read a b c)) r e = none_plan u js None r refl e
-fresh_plan u js (Some (asks.Write a b c)) r e = none_plan u js None r refl e
-fresh_plan u js (Some (asks.Lock a b c)) r e = none_plan u js None r refl e
-fresh_plan u js (Some (asks.Unlock a b)) r e = none_plan u js None r refl e
-fresh_plan u js (Some (asks.TestLock a b c)) r e = none_plan u js None r refl e
-fresh_plan u js (Some (asks.Truncate a b)) r e = none_plan u js None r refl e
-fresh_plan u js (Some (asks.Close a)) r e = none_plan u js None r refl e
-fresh_plan u js (Some (asks.Stat [])) r e = stat_plan u js r e
-fresh_plan u js (Some (asks.Stat (x ∷ xs))) r e = none_plan u js None r refl e
-fresh_plan u js (Some (asks.List a)) r e = none_plan u js None r refl e
-fresh_plan u js (Some (asks.MakeDir a)) r e = none_plan u js None r refl e
-fresh_plan u js (Some (asks.Remove a)) r e = none_plan u js None r refl e
-fresh_plan u js (Some (asks.Rename a b)) r e = none_plan u js None r refl e
-fresh_plan u js (Some (asks.Pause a)) r e = none_plan u js None r refl e
+-- a new request with a plan that does not ask for the lease time
+fresh_plan : (u : Setup) (js : List Event) (o : Option Plan) (r : Request) → NotLease o → with_plan o (on_free_slot u js) ≡ Some r → is_lease_time r.plan ≡ false
+fresh_plan u js None r h e = absurd (cc)
+fresh_plan u js (Some p) r h e = let d = free_plan u js p (session js) (free_slot js) (next_xid js) r e in ap (λ (q : Plan). is_lease_time q) d ∙ h.0
 
 -- ---- a request of the client's own is out
 
@@ -136,8 +116,8 @@ item_same u js item.Own r q s t k o a e f g h =
     let b = only_if_some (may_own u js) (with_plan (own_plan js) (on_free_slot u js)) r e in
     absurd (no_other u js s q k o b.0 g h)
 item_same u js (item.Fresh c) r q s t k o a e f g h =
-    let b = only_if_some (may_begin u js c) (with_plan (next_plan (command js c)) (on_free_slot u js)) r e in
-    let d = fresh_plan u js (command js c) r b.1 in
+    let b = only_if_some (may_begin u js c) (with_plan (plan_next u.callers js c) (on_free_slot u js)) r e in
+    let d = fresh_plan u js (plan_next u.callers js c) r (next_not (walk_most (session js)) (command js c) (call u.callers js c).way) b.1 in
     let l = and_left (is_lease_time r.plan) (not (is_bare r)) f in
     let z : true ≡ false = sym l ∙ d in
     absurd (cc)

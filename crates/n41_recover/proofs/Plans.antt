@@ -2,6 +2,7 @@
 use Rattle.std.proofs.Common.{◌≡◌, ℕ, zero, suc, Bool, true, false, ◌&&◌, not, List, [], ◌∷◌, Option, Some, None, Ok, Err, if◌then◌else◌, refl, ◌∙◌, ap}
 use Rattle.n41_types.specs.declared.commands.Command.{Command}
 use Rattle.n41_types.specs.declared.commands.Command.TheVariants as asks
+use Rattle.n41_types.specs.declared.plans.Place.{Place}
 use Rattle.n41_types.specs.declared.plans.Plan.{Plan}
 use Rattle.n41_types.specs.declared.plans.Plan.TheVariants as plan
 use Rattle.n41_types.specs.declared.plans.Request.{Request}
@@ -14,12 +15,13 @@ use Rattle.n41_results.specs.declared.results.Res.TheVariants as res
 use Rattle.n41_journal.specs.declared.events.Event.{Event}
 use Rattle.n41_model.specs.declared.words.Phase.{Phase}
 use Rattle.n41_model.specs.declared.words.Phase.TheVariants.{Down, Binding, Session, ClientId, Settling, Reclaiming, Completing, Running, Dead}
+use Rattle.n41_model.specs.declared.words.Way.{Way}
 use Rattle.n41_model.specs.declared.words.Verdict.{Verdict}
 use Rattle.n41_model.specs.declared.words.Verdict.TheVariants as v
 use Rattle.n41_model.specs.Replies.{is_breach, is_ok, is_delay, is_not_bound, is_uncached, is_size_refusal, is_reading, has_its_answer, repeats, sequenced_verdict, body_verdict, bare_body_verdict}
 use Rattle.n41_model.specs.Requests.{moment}
-use Rattle.n41_model.specs.Sessions.{is_lease_time, slot_phase}
-use Rattle.n41_model.specs.Calls.{Call, command, next_plan, is_plan, is_ready_call, chosen, sooner, in_running}
+use Rattle.n41_model.specs.Sessions.{is_lease_time, session, slot_phase}
+use Rattle.n41_model.specs.Calls.{Call, command, ahead, goal, last_of, make_dir, remove, rename, next_plan, walk_most, walk_or, is_plan, is_ready_call, chosen, sooner, in_running}
 use Rattle.n41_recover.specs.Recovery.{kind_of}
 use Rattle.n41_recover.specs.Step.{kind_verdict, told_run, told_verdict}
 
@@ -95,25 +97,44 @@ slot_phase_by p q (Some v.Breach) f e = refl
 
 -- ---- commands
 
+-- a plan that does not ask for the lease time
+abbrev pub NotLease : Option Plan → Type 0
+NotLease None = Unit {0}
+NotLease (Some p) = (is_lease_time p ≡ false) × (is_plan (Some p) plan.LeaseTime ≡ false)
+
+walk_not : (most : ℕ) (at : Place) (ns : List (List ℕ)) (o : Option Plan) → NotLease o → NotLease (walk_or most at ns o)
+walk_not most at [] o h = h
+walk_not most at (n ∷ ns) o h = (refl, refl)
+
+make_not : (at : Place) (o : Option (List ℕ)) → NotLease (make_dir at o)
+make_not at None = tt
+make_not at (Some n) = (refl, refl)
+
+remove_not : (at : Place) (o : Option (List ℕ)) → NotLease (remove at o)
+remove_not at None = tt
+remove_not at (Some n) = (refl, refl)
+
+rename_not : (from : Option Place) (old : Option (List ℕ)) (at : Place) (new : Option (List ℕ)) → NotLease (rename from old at new)
+rename_not None old at new = tt
+rename_not (Some d) None at new = tt
+rename_not (Some d) (Some m) at None = tt
+rename_not (Some d) (Some m) at (Some n) = (refl, refl)
+
+goal_not : (k : Command) (w : Way) → NotLease (goal k w)
+goal_not (asks.Stat p) w = (refl, refl)
+goal_not (asks.MakeDir p) w = make_not w.at (last_of p)
+goal_not (asks.Remove p) w = remove_not w.at (last_of p)
+goal_not (asks.Rename p q) w = rename_not w.old (last_of p) w.at (last_of q)
+goal_not k w = tt
+
 -- no command asks for the lease time
-pub next_not : (k : Option Command) → is_plan (next_plan k) plan.LeaseTime ≡ false
-next_not None = refl
-next_not (Some (asks.Create a b c)) = refl
-next_not (Some (asks.OpenFile a b c)) = refl
-next_not (Some (asks.Read a b c)) = refl
-next_not (Some (asks.Write a b c)) = refl
-next_not (Some (asks.Lock a b c)) = refl
-next_not (Some (asks.Unlock a b)) = refl
-next_not (Some (asks.TestLock a b c)) = refl
-next_not (Some (asks.Truncate a b)) = refl
-next_not (Some (asks.Close a)) = refl
-next_not (Some (asks.Stat [])) = refl
-next_not (Some (asks.Stat (x ∷ xs))) = refl
-next_not (Some (asks.List a)) = refl
-next_not (Some (asks.MakeDir a)) = refl
-next_not (Some (asks.Remove a)) = refl
-next_not (Some (asks.Rename a b)) = refl
-next_not (Some (asks.Pause a)) = refl
+pub next_not : (most : ℕ) (k : Option Command) (w : Way) → NotLease (next_plan most k w)
+next_not most None w = tt
+next_not most (Some k) w = walk_not most w.at (ahead k w) (goal k w) (goal_not k w)
+
+not_plan : (o : Option Plan) → NotLease o → is_plan o plan.LeaseTime ≡ false
+not_plan None h = refl
+not_plan (Some p) h = h.1
 
 and_none : (a b : Bool) → b ≡ false → (a && b) ≡ false
 and_none true b e = e
@@ -122,7 +143,7 @@ and_none false b e = refl
 pub none_chosen : (js : List Event) (calls : ℕ → Call) (n : ℕ) → chosen js calls plan.LeaseTime n ≡ None
 none_chosen js calls zero = refl
 none_chosen js calls (suc c) =
-    let e = and_none (is_ready_call (moment js) (command js c) (calls c)) (is_plan (next_plan (command js c)) plan.LeaseTime) (next_not (command js c)) in
+    let e = and_none (is_ready_call (moment js) (command js c) (calls c)) (is_plan (next_plan (walk_most (session js)) (command js c) (calls c).way) plan.LeaseTime) (not_plan (next_plan (walk_most (session js)) (command js c) (calls c).way) (next_not (walk_most (session js)) (command js c) (calls c).way)) in
     ap (λ (b : Bool). if b then sooner js (chosen js calls plan.LeaseTime c) c else chosen js calls plan.LeaseTime c) e ∙ none_chosen js calls c
 
 pub in_none : (f : Phase) → in_running f None ≡ None

@@ -1,6 +1,7 @@
 -- Lists of operations.
 use Rattle.std.proofs.Common.{◌≡◌, ℕ, zero, suc, ◌+◌, ◌≤◌, List, [], ◌∷◌, ◌++◌, length, map, take, slice_get, Some, subst, sym, add-one, arith}
 use Rattle.std.specs.List.{AllByRecursion}
+use Rattle.n41_types.specs.Names.{IsName}
 use Rattle.n41_attr.specs.Parts.{string}
 use Rattle.n41_args.specs.declared.arg.Arg.{Arg}
 use Rattle.n41_args.specs.declared.arg.Arg.TheVariants.{Lookup, GetFh}
@@ -42,7 +43,7 @@ pub last_of : (names : List (List ℕ)) (last : List Arg) → AllFit (map (λ na
 last_of [] last fits = fits
 last_of (n ∷ names) last fits = last_of names last fits.1
 
-pub looked_up : (names : List (List ℕ)) → AllByRecursion string.Fits names → AllFit (map (λ name. Lookup name) names ++ GetFh ∷ [])
-unfolding told_arg
-looked_up [] fits = ((omega arith, tt), tt)
-looked_up (n ∷ names) fits = ((omega arith, fits.0), looked_up names fits.1)
+pub looked_up : (names : List (List ℕ)) → AllByRecursion IsName names → AllFit (map (λ name. Lookup name) names ++ GetFh ∷ [])
+unfolding told_arg string
+looked_up [] are = ((omega arith, tt), tt)
+looked_up (n ∷ names) are = ((omega arith, (omega (arith, are.0.1), omega (arith, are.0.1))), looked_up names are.1)

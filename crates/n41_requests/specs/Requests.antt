@@ -2,7 +2,7 @@
 use Rattle.std.specs.Prelude.{◌<◌, ◌≤◌, ◌^◌, ◌+◌, ℕ, List, [], ◌++◌, length, map}
 use Rattle.std.specs.List.{flat_map, AllByRecursion}
 use Rattle.n41_xdr.specs.Spelling as spelling
-use Rattle.n41_types.specs.declared.plans.Place.TheVariants.{Root}
+use Rattle.n41_types.specs.Names.{IsName}
 use Rattle.n41_types.specs.declared.plans.Plan.{Plan}
 use Rattle.n41_types.specs.declared.plans.Plan.TheVariants as plan
 use Rattle.n41_types.specs.declared.plans.Request.{Request}
@@ -48,9 +48,20 @@ AllFit args = AllByRecursion told_arg.Fits (map written_arg args)
 unfoldable pub Fits : Request → Type 0
 Fits q = (q.xid < 2 ^ 32) × (q.uid < 2 ^ 32) × (q.gid < 2 ^ 32) × (q.minor < 2 ^ 32) × (length (request_args q) < 2 ^ 32) × AllFit (request_args q)
 
+-- ---- names
+
+-- every name in the plan is a name; that is so of every plan, by the types of its parts
+abbrev pub HasNames : Plan → Type 0
+HasNames (plan.Walk from names) = AllByRecursion IsName names
+HasNames (plan.CreateFile dir name guarded owner) = IsName name
+HasNames (plan.MakeDir dir name) = IsName name
+HasNames (plan.Remove dir name) = IsName name
+HasNames (plan.Rename from old to new) = IsName old × IsName new
+HasNames _ = Unit {0}
+
 -- ---- short requests
 
--- the plans of a session that is made and ended, and of a look at the root
+-- The plans of a session that is made and ended, walks of at most eight names, and what is asked at the end of a walk (own).
 abbrev pub IsSmall : Plan → Type 0
 IsSmall (plan.ExchangeId _ _) = Unit {0}
 IsSmall (plan.CreateSession _ _) = Unit {0}
@@ -60,5 +71,9 @@ IsSmall (plan.DestroyClient _) = Unit {0}
 IsSmall plan.Complete = Unit {0}
 IsSmall plan.LeaseTime = Unit {0}
 IsSmall plan.Renew = Unit {0}
-IsSmall (plan.Stat Root) = Unit {0}
+IsSmall (plan.Walk from names) = length names ≤ 8
+IsSmall (plan.Stat _) = Unit {0}
+IsSmall (plan.MakeDir _ _) = Unit {0}
+IsSmall (plan.Remove _ _) = Unit {0}
+IsSmall (plan.Rename _ _ _ _) = Unit {0}
 IsSmall _ = ⊥

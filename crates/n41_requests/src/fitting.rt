@@ -2,10 +2,11 @@
 
 ghost use Rattle.std.specs.Prelude.{◌≡◌, ◌<◌, ◌≤◌, ◌^◌, length};
 ghost use Rattle.std.specs.List.{AllByRecursion};
-ghost use Rattle.n41_attr.specs.Parts.{stateid, string};
+ghost use Rattle.n41_attr.specs.Parts.{stateid};
 ghost use Rattle.n41_requests.specs.Plans.{args_of};
 ghost use Rattle.n41_requests.specs.Requests.{AllFit};
 
+use crate::names::are_names;
 use crate::parts::{
     claim_fits, fh_fits, locker_fits, name_fits, owner_fits, place_fits, session_fits, span_fits,
     stateid_fits, verifier_fits,
@@ -47,20 +48,12 @@ pub(crate) fn destroy_client_fits(client: u64)
     ensures { AllFit (args_of (Plan.DestroyClient client)) }
 {}
 
-fn names_fit(names: &[Name])
-    ensures { AllByRecursion string.Fits names.now }
-{
-    for name in names {
-        name_fits(name);
-    }
-}
-
 #[tactic(auto, using(crate::proofs::Lists::looked_up))]
 pub(crate) fn walk_fits(from: &Place, names: &Path)
     ensures { AllFit (args_of (Plan.Walk from.now names.now)) }
 {
     place_fits(from);
-    names_fit(names.as_slice());
+    are_names(names.as_slice());
 }
 
 #[tactic(auto, unfolding(n41_args::specs::Args::told_arg, n41_attr::specs::Parts::bitmap, n41_attr::specs::Bitmaps::bitmap))]

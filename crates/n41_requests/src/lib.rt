@@ -6,6 +6,7 @@ mod files;
 mod fitting;
 mod laws;
 mod locks;
+mod names;
 mod openings;
 mod parts;
 mod places;
@@ -15,6 +16,7 @@ mod stateids;
 mod writing;
 
 pub use laws::{small_requests, what_is_spelled_is_asked};
+pub use names::request_has_names;
 pub use spelling::{request_fits, spell};
 
 #[cfg(test)]

@@ -10,6 +10,7 @@ use crate::fitting::{
     rename_fits, resize_fits, return_fits, stat_fits, test_fits, test_lock_fits, unlock_fits,
     walk_fits, write_fits,
 };
+use crate::names::request_has_names;
 use crate::parts::slot_fits;
 use crate::writing::write_body;
 use n41_rpc::{CallHead, Cred, write_call, write_system_body};
@@ -167,8 +168,9 @@ fn spell_whole(alloc: Global, q: &Request) -> Result<Bytes, NoMemory>
 pub fn spell(alloc: Global, q: &Request) -> Result<Bytes, NoMemory>
     requires { IsSpellable q.now }
     ensures text { IfOk result (λ bytes. bytes ≡ spelled q.now) }
-    ensures small { IfOk result (λ bytes. IsSmall q.now.plan → length bytes ≤ 2000) }
+    ensures small { IfOk result (λ bytes. IsSmall q.now.plan → length bytes ≤ 4000) }
 {
     request_fits(q);
+    request_has_names(q);
     spell_whole(alloc, q)
 }

@@ -23,7 +23,7 @@ use Rattle.n41_model.specs.declared.words.Sent.TheVariants.{Never, Waits, Delaye
 use Rattle.n41_model.specs.declared.words.Setup.{Setup}
 use Rattle.n41_model.specs.Requests.{standing, dials, puts, takes, moment, quit, rounds, bare, bare_waits, bare_put_at, out, sent, put_at, doubt, is_waiting, has_xid}
 use Rattle.n41_model.specs.Sessions.{slots, bound, phase}
-use Rattle.n41_model.specs.Calls.{command, number, next_plan, call, owner, is_caller, is_ready}
+use Rattle.n41_model.specs.Calls.{command, number, is_built, plan_next, call, owner, is_caller, is_ready}
 use Rattle.n41_model.specs.Answers.{HasCause, UnknownCause, UnreachableCause, breach_at, round_limit}
 use Rattle.n41_model.specs.Due.{due, only_if, with_plan, on_free_slot, is_open, finishing, goes_again, is_running, may_retry, may_begin}
 use Rattle.n41_model.specs.Kept.{MayBegin, MayPut, MayTake, IsAwaited, IsOld, MayBreakBy, MayAnswer, May, Kept}
@@ -89,12 +89,12 @@ begin_is u js c n k m =
     Decides-like (test_begin u js c n k m)
     (λ h. record { runs = h.0.0.0.0.0; caller = h.0.0.0.0.1; idle = h.0.0.0.1; number_is = h.0.0.1; moment_is = h.0.1; built = h.1 })
     (λ h. (((((h.runs, h.caller), h.idle), h.number_is), h.moment_is), h.built))
-    (Decides-and (not (quit js) && nat_lt c u.callers && is_none (command js c) && (n == suc (number js c)) && (m == moment js)) (is_some (next_plan (Some k)))
+    (Decides-and (not (quit js) && nat_lt c u.callers && is_none (command js c) && (n == suc (number js c)) && (m == moment js)) (is_built k)
     (Decides-and (not (quit js) && nat_lt c u.callers && is_none (command js c) && (n == suc (number js c))) (m == moment js)
     (Decides-and (not (quit js) && nat_lt c u.callers && is_none (command js c)) (n == suc (number js c))
     (Decides-and (not (quit js) && nat_lt c u.callers) (is_none (command js c))
     (Decides-and (not (quit js)) (nat_lt c u.callers) (false_is (quit js)) (below_is c u.callers))
-    (none_is (command js c))) (Decides-eqb n (suc (number js c)))) (Decides-eqb m (moment js))) (some_is (next_plan (Some k))))
+    (none_is (command js c))) (Decides-eqb n (suc (number js c)))) (Decides-eqb m (moment js))) (true_is (is_built k)))
 
 -- ---- requests are put
 
@@ -149,7 +149,7 @@ retry_below u js n r e =
 
 fresh_below : (u : Setup) (js : List Event) (c : ℕ) (r : Request) → due u js (item.Fresh c) ≡ Some r → c < u.callers
 fresh_below u js c r e =
-    let o = with_plan (next_plan (command js c)) (on_free_slot u js) in
+    let o = with_plan (plan_next u.callers js c) (on_free_slot u js) in
     let a = only_if_some (is_open js) (only_if (may_begin u js c) o) r e in
     let b = only_if_some (may_begin u js c) o r a.1 in
     let d = and_true (not (finishing u.callers js) && is_running (phase js) && nat_le (c + 1) u.callers) (is_ready u.callers js c) b.0 in

@@ -21,7 +21,7 @@ use Rattle.n41_model.specs.declared.words.Item.TheVariants as item
 use Rattle.n41_model.specs.declared.words.Setup.{Setup}
 use Rattle.n41_model.specs.Requests.{standing, dials, puts, takes, moment, quit, rounds, bares, bare, bare_waits, bare_put_at, outs, out, used, sent, put_at, doubt, is_waiting, has_xid}
 use Rattle.n41_model.specs.Sessions.{slots}
-use Rattle.n41_model.specs.Calls.{command, number, next_plan, call, owner, is_caller}
+use Rattle.n41_model.specs.Calls.{command, number, is_built, call, owner, is_caller}
 use Rattle.n41_model.specs.Answers.{breach_at}
 use Rattle.n41_model.specs.Due.{due}
 
@@ -113,7 +113,7 @@ test_break js c w = has_number (standing js) c && breaks_by js w
 
 abbrev pub test_begin : Setup → List Event → ℕ → ℕ → Command → ℕ → Bool
 test_begin u js c n k m =
-    not (quit js) && nat_lt c u.callers && is_none (command js c) && (n == suc (number js c)) && (m == moment js) && is_some (next_plan (Some k))
+    not (quit js) && nat_lt c u.callers && is_none (command js c) && (n == suc (number js c)) && (m == moment js) && is_built k
 
 abbrev pub is_changing : Class → Bool
 is_changing Changing = true

@@ -1,14 +1,14 @@
-ghost use Rattle.std.specs.Prelude.{◌≡◌, ◌↔◌, true, Some, is_some, option_copied};
+ghost use Rattle.std.specs.Prelude.{◌≡◌, ◌↔◌, true, option_copied};
 ghost use Rattle.n41_model.specs.Answers.{breaks, place_or, breach_at, HasCause};
-ghost use Rattle.n41_model.specs.Calls.{call, is_caller, next_plan};
+ghost use Rattle.n41_model.specs.Calls.{call, is_caller};
 ghost use Rattle.n41_rules.specs.Tests.{any_slot, is_changing, is_doubted, doubted_on, is_unknown, is_earned, has_cause, test_answer, test_begin};
 
 use crate::puts::has_number;
 use n41_journal::Event;
 use n41_model::{BareVerdict, Setup, Verdict};
-use n41_plain::{bare_verdict, doubt, quit, rounds, verdict};
-use n41_plain_due::{call, command, next_plan, out, owner};
-use n41_types::{Answer, Class, Command, Plan, Request};
+use n41_plain::{bare_verdict, doubt, is_built, quit, rounds, verdict};
+use n41_plain_due::{call, command, out, owner};
+use n41_types::{Answer, Class, Command, Request};
 
 /// Whether a reply that does this breaks the rules.
 fn breaks(verdict: Option<Verdict>, bare: Option<BareVerdict>) -> bool
@@ -160,24 +160,6 @@ pub fn may_answer(
         && command(events, caller).is_some()
         && number == n41_plain_due::number(events, caller)
         && tells_cause(setup.callers, events, caller, answer)
-}
-
-/// Whether there is a plan.
-fn is_planned(plan: &Option<Plan>) -> bool
-    ensures { result ≡ is_some plan.now }
-{
-    match plan {
-        None => false,
-        Some(_) => true,
-    }
-}
-
-/// Whether the command is built.
-fn is_built(command: &Command) -> bool
-    ensures { result ≡ is_some (next_plan (Some command.now)) }
-{
-    let plan = next_plan(Some(command));
-    is_planned(&plan)
 }
 
 /// Whether a caller may begin this command.

@@ -2,16 +2,16 @@ ghost use Rattle.std.specs.Prelude.{◌≡◌, option_copied};
 ghost use Rattle.n41_types.specs.declared.plans.Plan.TheVariants as asks;
 ghost use Rattle.n41_types.specs.contracts.plans.PlanPartialEq.TheImpl as plans;
 ghost use Rattle.n41_types.specs.contracts.plans.RequestPartialEq.TheImpl as requests;
-ghost use Rattle.n41_model.specs.Due.{due, bare_request, bare_due, with_plan};
+ghost use Rattle.n41_model.specs.Due.{due, bare_request, bare_due, on_free_slot, with_plan};
 ghost use Rattle.n41_model.specs.declared.words.Item.TheVariants as item;
 ghost use Rattle.n41_rules.specs.Tests.{has_number, is_request, any_item, is_due, test_put};
 
 use n41_journal::Event;
 use n41_model::{Phase, Setup};
-use n41_plain::{phase, puts, slots, standing};
+use n41_plain::{is_plan, phase, puts, session, slots, standing};
 use n41_plain_due::{
-    again_due, bare_due, destroy_due, fresh_due, is_open, kept_plan, may_step, next_xid, own_due,
-    retry_due,
+    again_due, bare_due, destroy_due, free_slot, is_open, kept_plan, may_begin, may_step, next_use,
+    next_xid, own_due, plan_next, retry_due,
 };
 use n41_types::{Plan, Request};
 
@@ -72,11 +72,32 @@ fn any_retry(setup: &Setup, events: &[Event], request: &Request, below: u32) -> 
     }
 }
 
+/// Whether the request is new on the lowest slot that is free, but for its plan, which may be any.
+#[tactic(auto, using(crate::proofs::Items::same_plan))]
+fn is_on_free_slot(setup: &Setup, events: &[Event], request: &Request) -> bool
+    ensures { result ≡ is_request (on_free_slot setup.now events.now request.now.plan) request.now }
+{
+    match (session(events), free_slot(events), next_xid(events)) {
+        (Some(made), Some(slot), Some(xid)) => {
+            xid == request.xid
+                && setup.uid == request.uid
+                && setup.gid == request.gid
+                && 1 == request.minor
+                && Some(next_use(events, &made, slot, &request.plan)) == request.slot
+        }
+        _ => false,
+    }
+}
+
 /// Whether the request is the next one of a caller's command.
+#[tactic(auto, using(crate::proofs::Items::fresh_is))]
 fn is_fresh(setup: &Setup, events: &[Event], request: &Request, caller: u32) -> bool
     ensures { result ≡ is_request (due setup.now events.now (item.Fresh caller)) request.now }
 {
-    is_open(events) && is_request(fresh_due(setup, events, caller), request)
+    is_open(events)
+        && may_begin(setup, events, caller)
+        && is_plan(plan_next(setup.callers, events, caller), &request.plan)
+        && is_on_free_slot(setup, events, request)
 }
 
 /// Whether the request is the next one of the command of one of so many callers.

@@ -9,10 +9,10 @@ use n41_results::{
     Bound, Channel, Identity, Reply, ReplyBody, Res, Results, Sequenced, SessionMade,
 };
 use n41_types::{
-    Answer, Attrs, Bytes, Command, NoMemory, Path, Place, Plan, Request, SessionId, SlotUse,
-    Status, Value,
+    Answer, Attrs, Bytes, Command, Fh, Name, NoMemory, Path, Place, Plan, Request, SessionId,
+    SlotUse, Status, Value,
 };
-use std::alloc::Global;
+use std::alloc::{AllocError, Global};
 
 const SID: SessionId = SessionId([9; 16]);
 
@@ -163,15 +163,17 @@ fn add(events: &mut Vec<Event>, event: Event) -> Result<(), NoMemory> {
     Ok(())
 }
 
-fn stat(alloc: Global, number: u64) -> Result<Event, NoMemory> {
-    Ok(Event::Began {
+fn stat(number: u64, path: Path) -> Event {
+    Event::Began {
         caller: 0,
         number,
-        command: Command::Stat {
-            path: Path::from_vec(alloc, Vec::new(alloc))?,
-        },
+        command: Command::Stat { path },
         moment: 0,
-    })
+    }
+}
+
+fn stat_root(alloc: Global, number: u64) -> Result<Event, NoMemory> {
+    Ok(stat(number, Path::from_vec(alloc, Vec::new(alloc))?))
 }
 
 fn exchanged(alloc: Global) -> Result<Res, NoMemory> {
@@ -190,7 +192,7 @@ fn exchanged(alloc: Global) -> Result<Res, NoMemory> {
 fn opened(alloc: Global, setup: &Setup) -> Result<Vec<Event>, NoMemory> {
     let mut events = Vec::new(alloc);
     add(&mut events, Event::Dialed { conn: 1 })?;
-    add(&mut events, stat(alloc, 1)?)?;
+    add(&mut events, stat_root(alloc, 1)?)?;
     let exchange = Plan::ExchangeId {
         verifier: setup.verifier,
         owner: setup.owner.clone()?,
@@ -231,10 +233,10 @@ fn root() -> Plan {
     Plan::Stat { at: Place::Root }
 }
 
-fn done(size: u64) -> Event {
+fn done(number: u64, size: u64) -> Event {
     Event::Answered {
         caller: 0,
-        number: 1,
+        number,
         answer: Answer::Done(Value::Stat {
             kind: 2,
             size,
@@ -244,7 +246,20 @@ fn done(size: u64) -> Event {
     }
 }
 
-/// Then the attributes of the root and the answer, and all is given up: eight more, from this place and xid on.
+/// Then the attributes of the root and the answer: three more, from this place and xid on.
+fn look(
+    alloc: Global,
+    events: &mut Vec<Event>,
+    conn: u64,
+    place: u64,
+    xid: u32,
+) -> Result<(), NoMemory> {
+    add(events, put(conn, place, xid, 3, root()))?;
+    add(events, took_attributes(alloc, conn, place, xid, 3, ROOT)?)?;
+    add(events, done(1, 0))
+}
+
+/// Then the same, and all is given up: eight more, from this place and xid on.
 fn finish(
     alloc: Global,
     events: &mut Vec<Event>,
@@ -255,9 +270,7 @@ fn finish(
     requires place_fits { place < 100 }
     requires xid_fits { xid < 100 }
 {
-    add(events, put(conn, place, xid, 3, root()))?;
-    add(events, took_attributes(alloc, conn, place, xid, 3, ROOT)?)?;
-    add(events, done(0))?;
+    look(alloc, events, conn, place, xid)?;
     add(events, Event::Quit)?;
     add(
         events,
@@ -272,6 +285,60 @@ fn finish(
     let gone = Res::DestroyClient(Status::OK);
     add(events, took_one(alloc, conn, place + 2, xid + 2, gone)?)?;
     Ok(())
+}
+
+/// A path of one name.
+fn path(alloc: Global) -> Result<Path, NoMemory> {
+    let mut names = Vec::new(alloc);
+    match Name::of(alloc, b"a") {
+        Ok(name) => names.push(name)?,
+        Err(_) => return Err(AllocError),
+    }
+    Path::from_vec(alloc, names)
+}
+
+/// The filehandle of the file with that path.
+fn fh(alloc: Global) -> Result<Fh, NoMemory> {
+    Ok(Fh::new(Bytes::copy_from_slice(alloc, b"the file")?))
+}
+
+/// Then a look at the root, and a look at a file begins: fourteen in all.
+fn walking(alloc: Global, setup: &Setup) -> Result<Vec<Event>, NoMemory> {
+    let mut events = running(alloc, setup)?;
+    look(alloc, &mut events, 1, 4, 5)?;
+    add(&mut events, stat(2, path(alloc)?))?;
+    Ok(events)
+}
+
+fn walk(alloc: Global) -> Result<Plan, NoMemory> {
+    Ok(Plan::Walk {
+        from: Place::Root,
+        names: path(alloc)?,
+    })
+}
+
+fn stat_at(alloc: Global) -> Result<Plan, NoMemory> {
+    Ok(Plan::Stat {
+        at: Place::At(fh(alloc)?),
+    })
+}
+
+/// Then the walk to the file, its attributes and the answer: five more.
+fn walk_on(alloc: Global, events: &mut Vec<Event>) -> Result<(), NoMemory> {
+    add(events, put(1, 5, 6, 4, walk(alloc)?))?;
+    let mut results = Vec::new(alloc);
+    results.push(sequenced(4))?;
+    results.push(Res::PutRootFh(Status::OK))?;
+    results.push(Res::Lookup(Status::OK))?;
+    results.push(Res::GetFh(Ok(fh(alloc)?)))?;
+    add(events, took(alloc, 1, 5, 6, Status::OK, results)?)?;
+    add(events, put(1, 6, 7, 5, stat_at(alloc)?))?;
+    let mut results = Vec::new(alloc);
+    results.push(sequenced(5))?;
+    results.push(Res::PutFh(Status::OK))?;
+    results.push(Res::GetAttr(Ok(ROOT)))?;
+    add(events, took(alloc, 1, 6, 7, Status::OK, results)?)?;
+    add(events, done(2, 0))
 }
 
 /// Another connection, bound to the session: four more, the first with this xid.
@@ -298,7 +365,7 @@ fn bind_again(alloc: Global, events: &mut Vec<Event>) -> Result<(), NoMemory> {
 type Row = (Phase, Option<(Item, u32)>);
 
 /// Whether these are due, and nothing else.
-fn is_row(setup: &Setup, events: &[Event], row: Row) -> Result<bool, NoMemory> {
+fn is_row(alloc: Global, setup: &Setup, events: &[Event], row: Row) -> Result<bool, NoMemory> {
     let items = [
         Item::Again,
         Item::Retry(0),
@@ -314,7 +381,7 @@ fn is_row(setup: &Setup, events: &[Event], row: Row) -> Result<bool, NoMemory> {
             Some((wanted, xid)) if wanted == item => Some(xid),
             _ => None,
         };
-        let told = match due(setup, events, item)? {
+        let told = match due(alloc, setup, events, item)? {
             None => None,
             Some(request) => Some(request.xid),
         };
@@ -326,9 +393,14 @@ fn is_row(setup: &Setup, events: &[Event], row: Row) -> Result<bool, NoMemory> {
 }
 
 /// Whether each row tells of its journal, the first of the whole one.
-fn are_rows(setup: &Setup, events: &[Event], rows: &[Row]) -> Result<bool, NoMemory> {
+fn are_rows(
+    alloc: Global,
+    setup: &Setup,
+    events: &[Event],
+    rows: &[Row],
+) -> Result<bool, NoMemory> {
     for (index, row) in rows.iter().enumerate() {
-        if index > events.len() || !is_row(setup, &events[index..], *row)? {
+        if index > events.len() || !is_row(alloc, setup, &events[index..], *row)? {
             return Ok(false);
         }
     }
@@ -363,7 +435,7 @@ fn a_run_is_kept(rt: HostRuntime) -> Result<(), NoMemory> {
         (Phase::ClientId, Some((Item::Step, 1))),
         (Phase::Down, None),
     ];
-    assert!(rt; are_rows(&setup, events.as_slice(), &rows)?);
+    assert!(rt; are_rows(alloc, &setup, events.as_slice(), &rows)?);
     assert!(rt; is_kept(&setup, events.as_slice()));
     assert!(rt; has_ended(1, events.as_slice()));
     Ok(())
@@ -391,9 +463,29 @@ fn a_run_goes_on_after_a_break(rt: HostRuntime) -> Result<(), NoMemory> {
         (Phase::Down, None),
         (Phase::Running, Some((Item::Fresh(0), 5))),
     ];
-    assert!(rt; are_rows(&setup, events.as_slice(), &rows)?);
+    assert!(rt; are_rows(alloc, &setup, events.as_slice(), &rows)?);
     assert!(rt; is_kept(&setup, events.as_slice()));
     assert!(rt; has_ended(1, events.as_slice()));
+    Ok(())
+}
+
+#[test]
+fn a_walk_leads_to_the_file(rt: HostRuntime) -> Result<(), NoMemory> {
+    let alloc = rt.alloc();
+    let setup = setup(alloc)?;
+    let mut events = walking(alloc, &setup)?;
+    walk_on(alloc, &mut events)?;
+    let rows = [
+        (Phase::Running, None),
+        (Phase::Running, None),
+        (Phase::Running, None),
+        (Phase::Running, Some((Item::Fresh(0), 7))),
+        (Phase::Running, None),
+        (Phase::Running, Some((Item::Fresh(0), 6))),
+        (Phase::Running, None),
+    ];
+    assert!(rt; are_rows(alloc, &setup, events.as_slice(), &rows)?);
+    assert!(rt; is_kept(&setup, events.as_slice()));
     Ok(())
 }
 
@@ -405,6 +497,17 @@ fn is_refused(setup: &Setup, mut events: Vec<Event>, event: Event) -> Result<boo
     Ok(kept && !may && !is_kept(setup, events.as_slice()))
 }
 
+#[test]
+fn no_stat_goes_before_its_walk(rt: HostRuntime) -> Result<(), NoMemory> {
+    let alloc = rt.alloc();
+    let setup = setup(alloc)?;
+    for plan in [root(), stat_at(alloc)?] {
+        let events = walking(alloc, &setup)?;
+        assert!(rt; is_refused(&setup, events, put(1, 5, 6, 4, plan))?);
+    }
+    Ok(())
+}
+
 /// An event that breaks a rule where the callers' requests go out.
 fn broken_at_work(alloc: Global, number: u32) -> Result<Event, NoMemory> {
     Ok(match number {
@@ -414,8 +517,8 @@ fn broken_at_work(alloc: Global, number: u32) -> Result<Event, NoMemory> {
         3 => put(1, 4, 5, 4, root()),
         4 => put(1, 4, 5, 3, Plan::LeaseTime),
         5 => took_attributes(alloc, 1, 4, 4, 2, LEASE)?,
-        6 => stat(alloc, 2)?,
-        7 => done(0),
+        6 => stat_root(alloc, 2)?,
+        7 => done(1, 0),
         8 => Event::Dialed { conn: 2 },
         9 => Event::Broke {
             conn: 2,
@@ -464,7 +567,7 @@ fn broken(alloc: Global, setup: &Setup, number: u32) -> Result<(Vec<Event>, Even
         4 => {
             add(&mut events, put(1, 4, 5, 3, root()))?;
             add(&mut events, took_attributes(alloc, 1, 4, 5, 3, ROOT)?)?;
-            done(1)
+            done(1, 1)
         }
         5 => {
             add(&mut events, Event::Ticked { moment: 5 })?;

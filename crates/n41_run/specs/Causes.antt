@@ -2,8 +2,8 @@
 use Rattle.std.specs.Prelude.{◌≡◌, ℕ, List, ◌++◌, codes, Some, None}
 use Rattle.std.specs.declared.option.Option.{Option}
 use Rattle.std.specs.Fmt.{decimal}
-use Rattle.n41_script.specs.declared.fault.LineKind.{LineKind}
-use Rattle.n41_script.specs.declared.fault.LineKind.TheVariants as kind
+use Rattle.n41_words.specs.declared.fault.LineKind.{LineKind}
+use Rattle.n41_words.specs.declared.fault.LineKind.TheVariants as kind
 use Rattle.n41_run.specs.declared.fault.RunFault.{RunFault}
 use Rattle.n41_run.specs.declared.fault.RunFault.TheVariants.{Words, Script, ReadFault, WriteFault, Unreachable, Breach, NoMemory}
 

@@ -26,7 +26,7 @@ use Rattle.n41_probe.specs.Probes.{request, HearsNone, BeginsToAsk, IsProbed, Is
 use Rattle.n41_probe.specs.declared.fault.ProbeFault.{ProbeFault}
 use Rattle.n41_probe.specs.declared.fault.ProbeFault.TheVariants as probe
 use Rattle.n41_probe.specs.declared.talk.Talk.{Talk}
-use Rattle.n41_script.specs.declared.fault.LineKind.TheVariants as kind
+use Rattle.n41_words.specs.declared.fault.LineKind.TheVariants as kind
 use Rattle.n41_run.specs.declared.fault.RunFault.{RunFault}
 use Rattle.n41_run.specs.declared.fault.RunFault.TheVariants as run
 use Rattle.n41_run.specs.Causes.{status, IsOfProbe}

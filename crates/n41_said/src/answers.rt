@@ -1,7 +1,7 @@
 ghost use Rattle.std.specs.Prelude.{◌≡◌, option_copied, None, Some};
 ghost use Rattle.n41_model.specs.Replies.{results_of};
 ghost use Rattle.n41_model.specs.Sessions.{plan_in};
-ghost use Rattle.n41_model.specs.Calls.{stat_value, value_of_attrs, value_of, done_with, is_again, answer_in, is_put_off_by, attempts_after};
+ghost use Rattle.n41_model.specs.Calls.{stat_value, value_of_attrs, body_value, value_of, done_with, is_again, answer_in, is_put_off_by, attempts_after};
 
 use n41_model::Verdict;
 use n41_results::{Reply, ReplyBody, Res};
@@ -32,17 +32,26 @@ fn stat_value(list: &[Res]) -> Option<Value>
     }
 }
 
+/// The value that what a reply says gives to a request with this plan; a walk has no value of its own.
+fn body_value(plan: &Plan, body: &ReplyBody) -> Option<Value>
+    ensures { result ≡ body_value plan.now body.now }
+{
+    match (plan, body) {
+        (Plan::Stat { .. }, ReplyBody::Results { list, .. }) => stat_value(list.as_slice()),
+        (Plan::MakeDir { .. }, ReplyBody::Results { .. }) => Some(Value::Made),
+        (Plan::Remove { .. }, ReplyBody::Results { .. }) => Some(Value::Removed),
+        (Plan::Rename { .. }, ReplyBody::Results { .. }) => Some(Value::Renamed),
+        _ => None,
+    }
+}
+
 /// The value that the reply to the last request of a command spells.
 fn value_of(request: Option<&Request>, reply: &Reply) -> Option<Value>
     ensures { result ≡ value_of (plan_in (option_copied request.entry)) reply.now }
 {
-    let request = request?;
-    let Plan::Stat { .. } = &request.plan else {
-        return None;
-    };
-    match &reply.body {
-        ReplyBody::Results { list, .. } => stat_value(list.as_slice()),
-        _ => None,
+    match request {
+        None => None,
+        Some(request) => body_value(&request.plan, &reply.body),
     }
 }
 

@@ -5,6 +5,7 @@ mod answers;
 mod kept;
 mod phases;
 mod said;
+mod ways;
 
 pub use answers::{answer_in, attempts_after, is_put_off_by};
 pub use kept::{
@@ -15,3 +16,4 @@ pub use phases::{
     broke_phase, dialed_phase, is_step_of, is_step_said, puts_off, reply_phase, worked,
 };
 pub use said::{Said, has, held_with, holds, is_out};
+pub use ways::{ahead, last_of, reached, walk_most, way_after, way_of};

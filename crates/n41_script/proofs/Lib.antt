@@ -1,3 +1,2 @@
-pub mod Places
-pub mod Cuts
+pub mod Ends
 pub mod Steps

@@ -1,10 +1,11 @@
 -- One line more is read.
-use Rattle.std.proofs.Common.{◌≡◌, ◌+◌, ℕ, zero, suc, List, [], ◌∷◌, ◌++◌, length, take, drop, slice_get, Result, Ok, Err, Some, None, arith, refl, ap, ◌∙◌, sym}
-use Rattle.n41_script.specs.declared.fault.LineKind.{LineKind}
-use Rattle.n41_script.specs.declared.fault.LineFault.{LineFault}
-use Rattle.n41_script.specs.declared.fault.LineFault.TheVariants.{Kind, NoMemory}
-use Rattle.n41_script.specs.Faults.{Leaves, at_line}
-use Rattle.n41_script.specs.Lines.{lines}
+use Rattle.std.proofs.Common.{◌≡◌, ℕ, zero, suc, List, [], ◌∷◌, ◌++◌, take, drop, slice_get, Result, Ok, Err, Some, refl, ap, ◌∙◌}
+use Rattle.n41_words.specs.declared.fault.LineKind.{LineKind}
+use Rattle.n41_words.specs.declared.fault.LineFault.{LineFault}
+use Rattle.n41_words.specs.declared.fault.LineFault.TheVariants.{Kind, NoMemory}
+use Rattle.n41_words.specs.Faults.{at_line}
+use Rattle.n41_script.specs.Faults.{Leaves}
+use Rattle.n41_words.specs.Lines.{lines}
 use Rattle.n41_script.specs.Scripts.{Said, after_line, then_line, after_lines, said_by, IsLineFault}
 
 got : (xs : List (List ℕ)) (n : ℕ) (x : List ℕ) (ys : List (List ℕ)) → drop n xs ≡ x ∷ ys → slice_get xs n ≡ Some x

@@ -1,23 +1,8 @@
 -- The callers of a script (own).
-use Rattle.std.specs.Prelude.{ℕ, ◌&&◌, ◌||◌, not, Bool, List, [], ◌∷◌, ◌++◌, length, if◌then◌else◌, nat_le, codes, Option}
-use Rattle.std.specs.List.{list_all, position}
+use Rattle.std.specs.Prelude.{ℕ, ◌&&◌, not, Bool, List, [], ◌∷◌, ◌++◌, length, if◌then◌else◌, nat_le, Option}
+use Rattle.std.specs.List.{position}
 use Rattle.std.specs.Option.{is_some, unwrap_or}
-use Rattle.n41_script.specs.Words.{same}
-
-abbrev pub is_within : ℕ → ℕ → ℕ → Bool
-is_within low high b = nat_le low b && nat_le b high
-
--- a lower-case letter or a digit
-abbrev pub is_caller_byte : ℕ → Bool
-is_caller_byte b = is_within 97 122 b || is_within 48 57 b
-
--- the form of a caller's name
-abbrev pub is_caller : List ℕ → Bool
-is_caller word = is_within 1 16 (length word) && list_all is_caller_byte word
-
--- the first words of lines that are of no caller
-abbrev pub is_kept : List ℕ → Bool
-is_kept word = same word (codes "plan") || (same word (codes "user") || same word (codes "owner"))
+use Rattle.n41_words.specs.Words.{same}
 
 -- a caller's place among those that came before
 abbrev pub place : List (List ℕ) → List ℕ → Option ℕ

@@ -1,26 +1,30 @@
 -- The command of a line, or the first fault in its words (own).
-use Rattle.std.specs.Prelude.{Bool, List, [], ◌∷◌, codes, if◌then◌else◌, Result, Ok, Err, ℕ}
+use Rattle.std.specs.Prelude.{Bool, true, false, List, [], ◌∷◌, if◌then◌else◌, Result, Ok, Err, ℕ}
 use Rattle.n41_types.specs.declared.commands.Command.{Command}
-use Rattle.n41_types.specs.declared.commands.Command.TheVariants as command
-use Rattle.n41_script.specs.Words.{has_control, same, missing}
-use Rattle.n41_script.specs.declared.fault.LineKind.{LineKind}
-use Rattle.n41_script.specs.declared.fault.LineKind.TheVariants as kind
+use Rattle.n41_words.specs.Words.{has_control, missing}
+use Rattle.n41_words.specs.declared.fault.LineKind.{LineKind}
+use Rattle.n41_words.specs.declared.fault.LineKind.TheVariants as kind
+use Rattle.n41_commands.specs.Commands.{onward, verb_of, command_with}
+use Rattle.n41_commands.specs.declared.verb.Verb.{Verb}
+use Rattle.n41_commands.specs.declared.verb.Verb.TheVariants as verb
 
--- the words end here
-abbrev pub ended : Bool → List (List ℕ) → Command → Result Command LineKind
-ended long [] c = if long then Err kind.Limit else Ok c
-ended long (word ∷ words) c = Err (if has_control word then kind.Byte else kind.Words)
+-- the verbs whose commands are built
+abbrev pub is_built : Verb → Bool
+is_built verb.Stat = true
+is_built verb.MakeDir = true
+is_built verb.Remove = true
+is_built verb.Rename = true
+is_built v = false
 
--- the path of `stat`, of which `/` is built
-abbrev pub stat : Bool → List (List ℕ) → Result Command LineKind
-stat long [] = Err (missing long kind.Words)
-stat long (word ∷ words) =
-    if has_control word then Err kind.Byte else
-    (if same word (codes "/") then ended long words (command.Stat []) else Err kind.Command)
+-- the verb that a word is, of those that are built
+abbrev pub built_verb : List ℕ → Result Verb LineKind
+built_verb word = onward (verb_of word) (λ v. if is_built v then Ok v else Err kind.Command)
 
--- the words behind the caller, where there may be a command more or not
+-- what the words behind a verb say, where there may be a command more or not
+abbrev pub room_for : Bool → Bool → List (List ℕ) → Verb → Result Command LineKind
+room_for full long words v = if full then Err kind.Limit else command_with v long words
+
+-- the words behind the caller
 abbrev pub command_of : Bool → Bool → List (List ℕ) → Result Command LineKind
 command_of full long [] = Err (missing long kind.Command)
-command_of full long (word ∷ words) =
-    if has_control word then Err kind.Byte else
-    (if same word (codes "stat") then (if full then Err kind.Limit else stat long words) else Err kind.Command)
+command_of full long (word ∷ words) = if has_control word then Err kind.Byte else onward (built_verb word) (λ v. room_for full long words v)

@@ -1,5 +1,4 @@
 pub mod Lines
-pub mod Words
 pub mod Callers
 pub mod Commands
 pub mod Scripts

@@ -1,14 +1,16 @@
 -- What a text says as a script, and where it is none (own).
-use Rattle.std.specs.Prelude.{◌≡◌, ◌<◌, ◌≤◌, ◌^◌, ◌⊎◌, ℕ, suc, Bool, List, [], ◌∷◌, ◌++◌, length, take, slice_get, codes, if◌then◌else◌, nat_le, Result, Ok, Err, Option, Some, None}
+use Rattle.std.specs.Prelude.{◌≡◌, ◌<◌, ◌≤◌, ◌^◌, ◌⊎◌, ℕ, suc, Bool, List, [], ◌∷◌, ◌++◌, length, take, slice_get, codes, if◌then◌else◌, nat_le, Result, Ok, Err, Some}
 use Rattle.n41_types.specs.declared.commands.Command.{Command}
-use Rattle.n41_script.specs.Lines.{lines, words, is_skipped, is_long, readable}
-use Rattle.n41_script.specs.Words.{has_control, missing}
-use Rattle.n41_script.specs.Callers.{is_caller, is_kept, is_too_many, caller, with_caller}
+use Rattle.n41_words.specs.Lines.{lines, words, is_skipped}
+use Rattle.n41_words.specs.Words.{has_control, missing}
+use Rattle.n41_commands.specs.Callers.{is_caller, is_kept}
+use Rattle.n41_script.specs.Lines.{is_long, readable}
+use Rattle.n41_script.specs.Callers.{is_too_many, caller, with_caller}
 use Rattle.n41_script.specs.Commands.{command_of}
-use Rattle.n41_script.specs.declared.fault.LineKind.{LineKind}
-use Rattle.n41_script.specs.declared.fault.LineKind.TheVariants as kind
-use Rattle.n41_script.specs.declared.fault.ScriptFault.{ScriptFault}
-use Rattle.n41_script.specs.declared.fault.ScriptFault.TheVariants.{Line, NoMemory}
+use Rattle.n41_words.specs.declared.fault.LineKind.{LineKind}
+use Rattle.n41_words.specs.declared.fault.LineKind.TheVariants as kind
+use Rattle.n41_words.specs.declared.fault.ScriptFault.{ScriptFault}
+use Rattle.n41_words.specs.declared.fault.ScriptFault.TheVariants.{Line, NoMemory}
 use Rattle.n41_script.specs.declared.script.Script.{Script}
 use Rattle.n41_script.specs.declared.script.ScriptLine.{ScriptLine}
 

@@ -1,53 +1,33 @@
 // The commands of callers.
-ghost use Rattle.std.specs.Prelude.{◌≡◌, [], IfOk};
-ghost use Rattle.n41_script.specs.Lines.{words};
-ghost use Rattle.n41_script.specs.Faults.{Gives, unless};
-ghost use Rattle.n41_script.specs.Commands.{ended, stat, command_of};
+ghost use Rattle.std.specs.Prelude.{◌≡◌};
+ghost use Rattle.n41_words.specs.Lines.{words};
+ghost use Rattle.n41_words.specs.Faults.{Gives};
+ghost use Rattle.n41_script.specs.Commands.{is_built, built_verb, command_of};
 
-use crate::fault::{LineFault, LineKind};
-use crate::words::{has_control, is_word, missing, next_word};
-use n41_types::{Command, NoMemory, Path, Sequence};
+use n41_commands::{Verb, read_command_with, read_verb};
+use n41_types::Command;
+use n41_words::{LineFault, LineKind, has_control, missing, next_word};
 use std::alloc::Global;
 
-/// The path of the root.
-fn root(alloc: Global) -> Result<Path, NoMemory>
-    ensures { IfOk result (λ path. path ≡ []) }
+/// Whether the commands of a verb are built.
+fn is_built(verb: Verb) -> bool
+    ensures { result ≡ is_built verb }
 {
-    Sequence::from_vec(alloc, Vec::new(alloc))
+    matches!(
+        verb,
+        Verb::Stat | Verb::MakeDir | Verb::Remove | Verb::Rename
+    )
 }
 
-/// What is wrong where the words are to end, if anything is.
-fn end_fault(long: bool, text: &[u8]) -> Option<LineKind>
-    ensures { (c : Command) → ended long (words text.now) c ≡ unless result c }
+/// The verb that a word is, of those that are built.
+fn built_verb(word: &[u8]) -> Result<Verb, LineKind>
+    ensures { result ≡ built_verb word.now }
 {
-    match next_word(text) {
-        Some((word, _)) => Some(if has_control(word) {
-            LineKind::Byte
-        } else {
-            LineKind::Words
-        }),
-        None => if long { Some(LineKind::Limit) } else { None },
+    let verb = read_verb(word)?;
+    if !is_built(verb) {
+        return Err(LineKind::Command);
     }
-}
-
-/// The command `stat`, by the words behind it.
-fn stat(alloc: Global, long: bool, text: &[u8]) -> Result<Command, LineFault>
-    ensures { Gives result (stat long (words text.now)) }
-{
-    let Some((word, rest)) = next_word(text) else {
-        return Err(LineFault::Kind(missing(long, LineKind::Words)));
-    };
-    if has_control(word) {
-        return Err(LineFault::Kind(LineKind::Byte));
-    }
-    if !is_word(word, b"/") {
-        return Err(LineFault::Kind(LineKind::Command));
-    }
-    if let Some(kind) = end_fault(long, rest) {
-        return Err(LineFault::Kind(kind));
-    }
-    let path = root(alloc)?;
-    Ok(Command::Stat { path })
+    Ok(verb)
 }
 
 /// The command of the words behind a caller, where there may be one more or not.
@@ -65,11 +45,12 @@ pub(crate) fn command_of(
     if has_control(word) {
         return Err(LineFault::Kind(LineKind::Byte));
     }
-    if !is_word(word, b"stat") {
-        return Err(LineFault::Kind(LineKind::Command));
-    }
+    let verb = match built_verb(word) {
+        Ok(verb) => verb,
+        Err(kind) => return Err(LineFault::Kind(kind)),
+    };
     if full {
         return Err(LineFault::Kind(LineKind::Limit));
     }
-    stat(alloc, long, rest)
+    read_command_with(alloc, verb, long, rest)
 }

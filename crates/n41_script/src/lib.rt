@@ -3,14 +3,12 @@
 
 mod callers;
 mod commands;
-mod fault;
 mod lines;
 mod reading;
 mod script;
 #[cfg(test)]
 mod tests;
-mod words;
 
-pub use fault::{LineKind, ScriptFault};
+pub use n41_words::{LineKind, ScriptFault};
 pub use reading::{SCRIPT_LIMIT, read_script};
 pub use script::{Lines, Script, ScriptLine};

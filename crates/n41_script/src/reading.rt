@@ -1,17 +1,19 @@
 // The lines of a script, read one after another.
 ghost use Rattle.std.specs.Prelude.{◌≡◌, ◌<◌, ◌∷◌, ◌++◌, [], length, IfOk, IfErr, OnOk};
-ghost use Rattle.n41_script.specs.Lines.{lines, words};
+ghost use Rattle.n41_words.specs.Lines.{lines, words};
 ghost use Rattle.n41_script.specs.Callers.{caller_limit};
 ghost use Rattle.n41_script.specs.Faults.{Leaves, Numbers};
 ghost use Rattle.n41_script.specs.Scripts.{nothing, is_full, after_caller, after_words, after_line, said_by, IsOf, IsScript, IsLineFault, IsFault};
 
-use crate::callers::{is_caller, is_kept, place_of};
+use crate::callers::place_of;
 use crate::commands::command_of;
-use crate::fault::{LineFault, LineKind, ScriptFault};
-use crate::lines::{is_long, is_skipped, next_line, readable};
+use crate::lines::{is_long, readable};
 use crate::script::{Script, ScriptLine};
-use crate::words::{has_control, missing, next_word};
+use n41_commands::{is_caller, is_kept};
 use n41_types::{Bytes, Name, NoMemory, Sequence};
+use n41_words::{
+    LineFault, LineKind, ScriptFault, has_control, is_skipped, missing, next_line, next_word,
+};
 use std::alloc::Global;
 use std::marker::Model;
 

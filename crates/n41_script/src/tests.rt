@@ -95,8 +95,20 @@ fn scripts_are_read(rt: HostRuntime) {
 }
 
 #[test]
+fn commands_that_are_built_are_read(rt: HostRuntime) {
+    let alloc = rt.alloc();
+    for text in [
+        b"a stat /a/b\n".as_slice(),
+        b"a mkdir /a\na remove /a/b\n".as_slice(),
+        b"a rename /a /b/c".as_slice(),
+    ] {
+        assert!(rt; is_read(alloc, text));
+    }
+}
+
+#[test]
 fn lines_are_refused(rt: HostRuntime) {
-    let cases: [(&[u8], u64, LineKind); 22] = [
+    let cases: [(&[u8], u64, LineKind); 25] = [
         (b"\t", 1, LineKind::Byte),
         (b"\n\na\x7f", 3, LineKind::Byte),
         (b"a \x1fstat /", 1, LineKind::Byte),
@@ -112,13 +124,16 @@ fn lines_are_refused(rt: HostRuntime) {
         (b"a stat /\n\na", 3, LineKind::Command),
         (b"a creat \x01", 1, LineKind::Command),
         (b"a list /", 1, LineKind::Command),
-        (b"a stat x", 1, LineKind::Command),
-        (b"a stat /a", 1, LineKind::Command),
-        (b"a stat /a//b", 1, LineKind::Command),
+        (b"a pause 1", 1, LineKind::Command),
+        (b"a create f /a", 1, LineKind::Command),
+        (b"a stat x", 1, LineKind::Path),
+        (b"a stat /a//b", 1, LineKind::Path),
+        (b"a mkdir /", 1, LineKind::Path),
+        (b"a rename /a", 1, LineKind::Words),
         (b"a stat", 1, LineKind::Words),
         (b"a stat / /", 1, LineKind::Words),
         (b"a stat /\nb stat\nc", 2, LineKind::Words),
-        (b"a stat \x80", 1, LineKind::Command),
+        (b"a stat \x80", 1, LineKind::Path),
     ];
     for (text, line, kind) in cases {
         assert_eq!(rt; fault_of(rt.alloc(), text), Some((line, kind)));
@@ -132,7 +147,7 @@ fn long_lines_are_refused(rt: HostRuntime) -> Result<(), NoMemory> {
         (Filled(b"a stat /", b' ', 139_993), Some(LineKind::Limit)),
         (Filled(b"a stat", b' ', 139_994), Some(LineKind::Words)),
         (Filled(b"a stat", b' ', 139_995), Some(LineKind::Limit)),
-        (Filled(b"a stat /", b'x', 139_992), Some(LineKind::Command)),
+        (Filled(b"a stat /", b'x', 139_992), Some(LineKind::Path)),
         (Filled(b"a stat /", b'x', 139_993), Some(LineKind::Limit)),
         (Filled(b"a stat / ", b'x', 139_991), Some(LineKind::Words)),
         (Filled(b"a stat / ", b'x', 139_992), Some(LineKind::Limit)),

@@ -6,7 +6,7 @@ use Rattle.n41_types.specs.declared.plans.Request.{Request}
 use Rattle.n41_types.specs.declared.plans.SlotUse.{SlotUse}
 use Rattle.n41_results.specs.declared.replies.Reply.{Reply}
 use Rattle.n41_model.specs.Requests.{is_on, is_use_of, is_bare, is_bare_use}
-use Rattle.n41_model.specs.Calls.{is_caller, fresh_call, put_call, took_call}
+use Rattle.n41_model.specs.Calls.{is_caller, fresh_call, way_of, put_call, took_call}
 use Rattle.n41_view.specs.declared.tables.Seat.{Seat}
 use Rattle.n41_view.specs.declared.tables.Slot.{Slot}
 use Rattle.n41_view.specs.Step.{put_slot, began_seat, put_seat, took_seat, answered_seat, with_call, call_of, Said}
@@ -51,9 +51,9 @@ same_place d ss x p l = let e : (get_or ss d x).caller ≡ 0 + d = place_at seat
 is_there : (o : Option ℕ) (d : ℕ) (ss : List Seat) (x : Seat) → o ≡ Some d → IsPlaced seat_place 0 ss → d < length ss → is_caller o (get_or ss d x).caller ≡ true
 is_there o d ss x e p l = rw e (same_place d ss x p l)
 
-pub began_there : (d n : ℕ) (k : Command) (at : ℕ) (ss : List Seat) (x t : Seat) → IsPlaced seat_place 0 ss → d < length ss → t ≡ with_call (record (get_or ss d x) { command = Some k; number = n; began_at = at }) fresh_call → set ss d t ≡ map (began_seat d n k at) ss
+pub began_there : (d n : ℕ) (k : Command) (at : ℕ) (ss : List Seat) (x t : Seat) → IsPlaced seat_place 0 ss → d < length ss → t ≡ with_call (record (get_or ss d x) { command = Some k; number = n; began_at = at }) (fresh_call (way_of k)) → set ss d t ≡ map (began_seat d n k at) ss
 began_there d n k at ss x t p l e =
-    let g = then_of (d == (get_or ss d x).caller) (with_call (record (get_or ss d x) { command = Some k; number = n; began_at = at }) fresh_call) (get_or ss d x) (same_place d ss x p l) in
+    let g = then_of (d == (get_or ss d x).caller) (with_call (record (get_or ss d x) { command = Some k; number = n; began_at = at }) (fresh_call (way_of k))) (get_or ss d x) (same_place d ss x p l) in
     let h = step_there (began_seat d n k at) seat_place 0 d d ss x p (began_other d n k at) (omega arith) l in
     ap (λ (s : Seat). set ss d s) (e ∙ sym g) ∙ h
 
@@ -81,9 +81,9 @@ put_past o d ss g p l = step_past (put_seat o) seat_place 0 d ss p (λ s. put_ot
 pub put_nowhere : (o : Option ℕ) (ss : List Seat) → o ≡ None → map (put_seat o) ss ≡ ss
 put_nowhere o ss g = step_nothing (put_seat o) ss (λ s. else_of (is_caller o s.caller) _ s (rw g refl))
 
-pub took_there : (m : ℕ) (a : Said) (y : Reply) (d : ℕ) (ss : List Seat) (x t : Seat) → a.owner ≡ Some d → IsPlaced seat_place 0 ss → d < length ss → t ≡ with_call (get_or ss d x) (took_call m a.plan a.slot y (call_of (get_or ss d x))) → set ss d t ≡ map (took_seat m a y) ss
+pub took_there : (m : ℕ) (a : Said) (y : Reply) (d : ℕ) (ss : List Seat) (x t : Seat) → a.owner ≡ Some d → IsPlaced seat_place 0 ss → d < length ss → t ≡ with_call (get_or ss d x) (took_call m (get_or ss d x).command a.plan a.slot y (call_of (get_or ss d x))) → set ss d t ≡ map (took_seat m a y) ss
 took_there m a y d ss x t q p l e =
-    let g = then_of (is_caller a.owner (get_or ss d x).caller) (with_call (get_or ss d x) (took_call m a.plan a.slot y (call_of (get_or ss d x)))) (get_or ss d x) (is_there a.owner d ss x q p l) in
+    let g = then_of (is_caller a.owner (get_or ss d x).caller) (with_call (get_or ss d x) (took_call m (get_or ss d x).command a.plan a.slot y (call_of (get_or ss d x)))) (get_or ss d x) (is_there a.owner d ss x q p l) in
     let h = step_there (took_seat m a y) seat_place 0 d d ss x p (λ s. took_other m a y d s q) (omega arith) l in
     ap (λ (s : Seat). set ss d s) (e ∙ sym g) ∙ h
 

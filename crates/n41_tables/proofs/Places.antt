@@ -1,5 +1,5 @@
 -- Lists whose elements name their places: a step that changes the element of one place alone.
-use Rattle.std.proofs.Common.{◌≡◌, ◌≢◌, ℕ, zero, suc, ◌+◌, ◌<◌, ◌≤◌, length, List, [], ◌∷◌, map, set, get_or, refl, sym, ◌∙◌, ap, arith}
+use Rattle.std.proofs.Common.{◌≡◌, ◌≢◌, ℕ, zero, suc, ◌+◌, ◌<◌, ◌≤◌, length, List, [], ◌∷◌, map, set, get_or, refl, sym, ap, arith}
 use Rattle.n41_tables.specs.Sound.{IsPlaced}
 
 -- a step that changes no element changes nothing

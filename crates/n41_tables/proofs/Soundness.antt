@@ -1,8 +1,7 @@
 -- Each event leaves the tables sound.
-use Rattle.std.proofs.Common.{◌≡◌, ℕ, zero, suc, ◌+◌, ◌<◌, ◌≤◌, ◌==◌, ◌&&◌, get_or, Bool, true, false, length, List, [], ◌∷◌, map, min, Option, Some, None, if◌then◌else◌, refl, ◌∙◌, ap, arith}
+use Rattle.std.proofs.Common.{◌≡◌, ℕ, zero, suc, ◌+◌, ◌<◌, ◌≤◌, ◌==◌, get_or, Bool, true, false, length, List, [], ◌∷◌, map, min, Option, Some, None, if◌then◌else◌, refl, ◌∙◌, ap, arith}
 use Rattle.std.proofs.lemmas.List.{length-map}
 use Rattle.n41_types.specs.declared.commands.Command.{Command}
-use Rattle.n41_types.specs.declared.plans.Request.{Request}
 use Rattle.n41_results.specs.declared.replies.Reply.{Reply}
 use Rattle.n41_results.specs.declared.sessions.SessionMade.{SessionMade}
 use Rattle.n41_journal.specs.declared.events.Event.{Event}
@@ -13,7 +12,6 @@ use Rattle.n41_model.specs.Replies.{is_ok, is_final}
 use Rattle.n41_model.specs.Requests.{is_on, session_in}
 use Rattle.n41_model.specs.Calls.{Call, attempts_after, took_call, is_caller}
 use Rattle.n41_view.specs.View.{View, view, seats_from}
-use Rattle.n41_view.specs.declared.tables.Facts.{Facts}
 use Rattle.n41_view.specs.declared.tables.Seat.{Seat}
 use Rattle.n41_view.specs.declared.tables.Slot.{Slot}
 use Rattle.n41_view.specs.Step.{step, new_slots, slots_made, put_slot, took_slot, dialed_slot, broke_slot, began_seat, put_seat, took_seat, answered_seat, with_call, call_of, Said, said, new_owner}
@@ -89,7 +87,7 @@ began_tried d n k at m s l = least_either (λ (t : Seat). t.attempts) (d == s.ca
 put_tried : (o : Option ℕ) (m : ℕ) (s : Seat) → s.attempts ≤ m → (put_seat o s).attempts ≤ suc m
 put_tried o m s l = least_either (λ (t : Seat). t.attempts) (is_caller o s.caller) _ s (suc m) (let e : s.attempts + 1 ≤ suc m = omega arith in e) (more _ _ l)
 
-call_tried : (n : ℕ) (a : Said) (y : Reply) (m : ℕ) (s : Seat) → s.attempts ≤ m → (with_call s (took_call n a.plan a.slot y (call_of s))).attempts ≤ suc m
+call_tried : (n : ℕ) (a : Said) (y : Reply) (m : ℕ) (s : Seat) → s.attempts ≤ m → (with_call s (took_call n s.command a.plan a.slot y (call_of s))).attempts ≤ suc m
 call_tried n a y m s l =
     let e : attempts_after a.slot s.attempts ≤ s.attempts = attempts_least a.slot s.attempts in
     least_either (λ (k : Call). k.attempts) (is_final y) _ (call_of s) (suc m) (let g : attempts_after a.slot s.attempts ≤ suc m = omega arith in g) (more _ _ l)

@@ -2,6 +2,7 @@
 #![tactic(auto)]
 
 mod chosen;
+mod copies;
 mod facts;
 mod seats;
 mod slots;
@@ -10,4 +11,5 @@ mod tables;
 mod tests;
 
 pub use chosen::new_owner;
+pub use copies::EventCopy;
 pub use tables::Tables;

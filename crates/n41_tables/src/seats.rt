@@ -1,18 +1,19 @@
 ghost use Rattle.std.specs.Prelude.{◌≡◌, ◌+◌, ◌-◌, ◌<◌, ◌^◌, None, Some, map, if◌then◌else◌};
-ghost use Rattle.n41_model.specs.Calls.{fresh_call, put_call, took_call, is_put_off_by};
+ghost use Rattle.n41_model.specs.Calls.{fresh_call, put_call, took_call, is_put_off_by, way_of, reached_in};
 ghost use Rattle.n41_view.specs.Step.{with_call, call_of, began_seat, put_seat, took_seat, answered_seat};
 ghost use Rattle.n41_tables.specs.Sound.{IsPlaced, IsTried, seat_place};
 
 use n41_model::{Verdict, is_final};
 use n41_results::Reply;
-use n41_said::{Said, answer_in, attempts_after, is_put_off_by};
-use n41_types::Command;
+use n41_said::{Said, answer_in, attempts_after, is_put_off_by, way_after, way_of};
+use n41_types::{Command, Fh};
 use n41_view::Seat;
 
 /// A caller gave a command: its number, and the place where it began.
 fn began_seat(number: u64, command: Command, place: u64, seat: &mut Seat)
-    ensures { seat.new ≡ with_call (record seat.old { command = Some command; number = number; began_at = place }) fresh_call }
+    ensures { seat.new ≡ with_call (record seat.old { command = Some command; number = number; began_at = place }) (fresh_call (way_of command)) }
 {
+    seat.way = way_of(&command);
     drop(seat.command.replace(command));
     seat.number = number;
     seat.began_at = place;
@@ -80,9 +81,10 @@ fn since_after(verdict: Option<Verdict>, attempts: u64, moment: u64) -> Option<u
     }
 }
 
-/// A reply to a request of a caller is taken.
-fn took_seat(moment: u64, said: &Said, reply: &Reply, seat: &mut Seat)
-    ensures { seat.new ≡ with_call seat.old (took_call moment said.now.plan said.now.slot reply.now (call_of seat.old)) }
+/// A reply to a request of a caller is taken, with the filehandle that it came to.
+fn took_seat(moment: u64, said: &Said, reply: &Reply, reached: Option<Fh>, seat: &mut Seat)
+    requires { reached ≡ reached_in reply.now.body }
+    ensures { seat.new ≡ with_call seat.old (took_call moment seat.old.command said.now.plan said.now.slot reply.now (call_of seat.old)) }
 {
     if !is_final(reply) {
         return;
@@ -93,11 +95,25 @@ fn took_seat(moment: u64, said: &Said, reply: &Reply, seat: &mut Seat)
     seat.since = since_after(said.slot, attempts, moment);
     seat.attempts = attempts_after(said.slot, attempts);
     seat.earned = answer_in(said.request, said.slot, attempts, reply);
+    way_after(
+        seat.command.as_ref(),
+        said.request,
+        said.slot,
+        reached,
+        &mut seat.way,
+    );
 }
 
 /// A reply is taken, maybe to a request of a caller.
-pub(crate) fn took_seats(moment: u64, said: &Said, reply: &Reply, seats: &mut [Seat])
-    requires { IsPlaced seat_place 0 seats.old }
+pub(crate) fn took_seats(
+    moment: u64,
+    said: &Said,
+    reply: &Reply,
+    reached: Option<Fh>,
+    seats: &mut [Seat],
+)
+    requires placed { IsPlaced seat_place 0 seats.old }
+    requires reached { reached ≡ reached_in reply.now.body }
     ensures { seats.new ≡ map (took_seat moment said.now reply.now) seats.old }
 {
     let Some(caller) = said.owner else {
@@ -108,7 +124,7 @@ pub(crate) fn took_seats(moment: u64, said: &Said, reply: &Reply, seats: &mut [S
         return;
     }
     let seat = &mut seats[index];
-    took_seat(moment, said, reply, seat);
+    took_seat(moment, said, reply, reached, seat);
 }
 
 /// A command of a caller was answered.

@@ -1,17 +1,19 @@
 ghost use Rattle.std.specs.Prelude.{◌≡◌, ◌+◌, ◌<◌, ◌^◌, suc, map, true, [], IfOk, option_copied};
 ghost use Rattle.n41_model.specs.Requests.{session_in};
+ghost use Rattle.n41_model.specs.Calls.{reached_in};
 ghost use Rattle.n41_view.specs.View.{view};
 ghost use Rattle.n41_view.specs.Step.{step, counted, put_facts, took_facts, ended_round, dialed_facts, broke_facts, put_bare, took_bare, put_slot, took_slot, dialed_slot, broke_slot, slots_made, began_seat, put_seat, took_seat, answered_seat, new_owner, said};
 
 use crate::chosen::new_owner;
+use crate::copies::EventCopy;
 use crate::facts::{broke_facts, counted, dialed_facts, ended_round, put_facts, took_facts};
 use crate::seats::{answered_seats, began_seats, put_seats, took_seats};
 use crate::slots::{broke_slots, dialed_slots, put_request, slots_made, took_bare, took_slots};
 use n41_journal::Event;
-use n41_model::Phase;
+use n41_model::{Phase, Way};
 use n41_results::{CbCall, CbReply, Reply};
 use n41_said::Said;
-use n41_types::{Answer, Command, NoMemory, Request};
+use n41_types::{Answer, Command, Fh, NoMemory, Place, Request};
 use n41_view::{Facts, PutOffs, Seat, Slot};
 use std::alloc::Global;
 use std::marker::Model;
@@ -87,6 +89,11 @@ fn new_seats(alloc: Global, callers: u32) -> Result<Vec<Seat>, NoMemory>
             since: None,
             attempts: 0,
             earned: None,
+            way: Way {
+                at: Place::Root,
+                walked: 0,
+                old: None,
+            },
         })?;
     }
     Ok(seats)
@@ -158,9 +165,10 @@ impl Tables {
         put_request(moment, request, owner, &mut self.bare, &mut self.slots);
     }
 
-    /// A reply was taken: what it says moves facts and seats, and then it ends what it answers.
-    fn took(&mut self, reply: Reply)
-        requires { self.old.facts.events + 1 < 2 ^ 64 }
+    /// A reply was taken, with the filehandle that it came to: what it says moves facts and seats, and then it ends what it answers.
+    fn took(&mut self, reply: Reply, reached: Option<Fh>)
+        requires events { self.old.facts.events + 1 < 2 ^ 64 }
+        requires reached { reached ≡ reached_in reply.body }
         ensures { self.new ≡ record { facts = counted (took_facts (said self.old reply) reply self.old.facts); bare = took_bare reply self.old.bare; slots = slots_made (session_in (said self.old reply).bare) (map (took_slot self.old.facts.moment reply) self.old.slots); seats = map (took_seat self.old.facts.moment (said self.old reply) reply) self.old.seats } }
     {
         let moment = self.facts.moment;
@@ -168,7 +176,7 @@ impl Tables {
         let made = said.made();
         took_facts(&mut self.facts, &said, &reply);
         counted(&mut self.facts);
-        took_seats(moment, &said, &reply, &mut self.seats);
+        took_seats(moment, &said, &reply, reached, &mut self.seats);
         took_slots(moment, &reply, &mut self.slots);
         slots_made(made, &mut self.slots);
         took_bare(&reply, &mut self.bare);
@@ -252,11 +260,12 @@ impl Tables {
         counted(&mut self.facts);
     }
 
-    /// The tables after an event. It takes no memory.
-    pub fn step(&mut self, event: Event)
+    /// The tables after an event, by a copy of it. It takes no memory.
+    pub fn step(&mut self, copy: EventCopy)
         requires { self.old.facts.events + 1 < 2 ^ 64 }
-        ensures { self.new ≡ step self.old event }
+        ensures { self.new ≡ step self.old copy }
     {
+        let EventCopy { event, reached } = copy;
         match event {
             Event::Began {
                 caller,
@@ -265,7 +274,7 @@ impl Tables {
                 ..
             } => self.began(caller, number, command),
             Event::Put { request, .. } => self.put(request),
-            Event::Took { reply, .. } => self.took(reply),
+            Event::Took { reply, .. } => self.took(reply, reached),
             Event::CbTook { call, .. } => self.cb_took(call),
             Event::CbPut { reply, .. } => self.cb_put(reply),
             Event::Dialed { conn } => self.dialed(conn),

@@ -4,7 +4,7 @@ ghost use Rattle.n41_view.specs.View.{view};
 
 use n41_journal::{Event, Journal};
 use n41_model::Setup;
-use n41_tables::Tables;
+use n41_tables::{EventCopy, Tables};
 use n41_types::NoMemory;
 use std::alloc::Global;
 use std::marker::Model;
@@ -102,7 +102,7 @@ impl Tied {
     }
 
     /// Adds an event that may follow, in the room that was made. The tables move by a copy of it, so that no memory is taken.
-    pub fn add(&mut self, event: Event, copy: Event)
+    pub fn add(&mut self, event: Event, copy: EventCopy)
         requires room { 0 < self.old.room }
         requires may { May self.old.setup self.old.events event }
         requires copy { copy ≡ event }

@@ -15,7 +15,7 @@ use Rattle.n41_model.specs.declared.words.Setup.{Setup}
 use Rattle.n41_model.specs.Answers.{round_limit}
 use Rattle.n41_model.specs.Requests.{standing, moment, rounds, bares, bare, out, used, sent}
 use Rattle.n41_model.specs.Sessions.{session, slots, bound, phase, put_off, passed, free_slot, is_empty, next_xid}
-use Rattle.n41_model.specs.Calls.{command, next_plan, is_ready}
+use Rattle.n41_model.specs.Calls.{plan_next, is_ready}
 use Rattle.n41_model.specs.Due.{due, item_due, only_if, with_plan, on_free, on_free_slot, bare_with, bare_due, goes_again, finishing, is_dead, is_running, is_session, step_plan, phase_plan, own_plan, destroy_plan, may_step, may_own, is_open, has_ended}
 use Rattle.n41_model.proofs.Slots.{Seats}
 use Rattle.n41_view.specs.View.{view, facts_of, held_of, slots_from, seats_from}
@@ -126,15 +126,15 @@ retry_is u js n k =
 
 -- ---- a caller's request
 
-fresh_at : (u : Setup) (js : List Event) (c : ℕ) → Seats js → (a : Bool) → (c < u.callers) ⊎ (u.callers ≤ c) → only_if a (begins_seat u (view u.callers js) (slice_get (seats_from u.callers js 0 u.callers) c)) ≡ only_if (a && nat_le (c + 1) u.callers && is_ready u.callers js c) (with_plan (next_plan (command js c)) (on_free_slot u js))
+fresh_at : (u : Setup) (js : List Event) (c : ℕ) → Seats js → (a : Bool) → (c < u.callers) ⊎ (u.callers ≤ c) → only_if a (begins_seat u (view u.callers js) (slice_get (seats_from u.callers js 0 u.callers) c)) ≡ only_if (a && nat_le (c + 1) u.callers && is_ready u.callers js c) (with_plan (plan_next u.callers js c) (on_free_slot u js))
 fresh_at u js c s a (inl h) =
     let d = ap (λ (o : Option _). begins_seat u (view u.callers js) o) (seat_below u.callers js u.callers c h) in
-    let w = with_same (next_plan (command js c)) (new_on u (view u.callers js)) (on_free_slot u js) (λ p. new_on_is u js p s) in
+    let w = with_same (plan_next u.callers js c) (new_on u (view u.callers js)) (on_free_slot u js) (λ p. new_on_is u js p s) in
     let e = ap (λ (o : Option Request). only_if (is_ready u.callers js c) o) w in
-    ap (λ (o : Option Request). only_if a o) (d ∙ e) ∙ only_both a (nat_le (c + 1) u.callers) (is_ready u.callers js c) (with_plan (next_plan (command js c)) (on_free_slot u js)) (is_below c u.callers h)
+    ap (λ (o : Option Request). only_if a o) (d ∙ e) ∙ only_both a (nat_le (c + 1) u.callers) (is_ready u.callers js c) (with_plan (plan_next u.callers js c) (on_free_slot u js)) (is_below c u.callers h)
 fresh_at u js c s a (inr h) =
     let d = ap (λ (o : Option _). only_if a (begins_seat u (view u.callers js) o)) (seat_past u.callers js u.callers c h) in
-    d ∙ (only_none a ∙ only_not a (nat_le (c + 1) u.callers) (is_ready u.callers js c) (with_plan (next_plan (command js c)) (on_free_slot u js)) (is_past c u.callers h))
+    d ∙ (only_none a ∙ only_not a (nat_le (c + 1) u.callers) (is_ready u.callers js c) (with_plan (plan_next u.callers js c) (on_free_slot u js)) (is_past c u.callers h))
 
 below_or_past : (a b : ℕ) → (a < b) ⊎ (b ≤ a)
 below_or_past a b = grind arith

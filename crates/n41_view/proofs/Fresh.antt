@@ -10,7 +10,7 @@ use Rattle.n41_model.specs.declared.words.Item.TheVariants as item
 use Rattle.n41_model.specs.declared.words.Setup.{Setup}
 use Rattle.n41_model.specs.Requests.{bares, bare, bare_waits, outs, out, is_on, knows, has_xid}
 use Rattle.n41_model.specs.Sessions.{session, slots, free_slot, is_free, lowest_free, all_outs, outs_from, unused_xid, xid_after, next_xid, last_xid}
-use Rattle.n41_model.specs.Calls.{command, next_plan}
+use Rattle.n41_model.specs.Calls.{plan_next}
 use Rattle.n41_model.specs.Due.{due, item_due, with_plan, on_free, on_free_slot, slot_request, bare_with, bare_due, bare_request, step_plan, own_plan, destroy_plan, may_retry, may_step, may_own, may_begin, may_destroy, is_open}
 use Rattle.n41_model.proofs.Tests.{only_if_some, with_plan_some}
 
@@ -81,8 +81,8 @@ item_placed u js item.Own r e =
     let p = with_plan_some (own_plan js) (on_free_slot u js) r h.1 in
     inr (slot_new u js p.0 r p.1)
 item_placed u js (item.Fresh c) r e =
-    let h = only_if_some (may_begin u js c) (with_plan (next_plan (command js c)) (on_free_slot u js)) r e in
-    let p = with_plan_some (next_plan (command js c)) (on_free_slot u js) r h.1 in
+    let h = only_if_some (may_begin u js c) (with_plan (plan_next u.callers js c) (on_free_slot u js)) r e in
+    let p = with_plan_some (plan_next u.callers js c) (on_free_slot u js) r h.1 in
     inr (slot_new u js p.0 r p.1)
 item_placed u js item.Destroy r e =
     let h = only_if_some (may_destroy u js) (with_plan (destroy_plan js) (bare_due u js)) r e in

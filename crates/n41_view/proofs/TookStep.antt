@@ -12,7 +12,7 @@ use Rattle.n41_model.specs.declared.words.Sent.{Sent}
 use Rattle.n41_model.specs.Replies.{is_final, gives_back, sequence_status}
 use Rattle.n41_model.specs.Requests.{moment, used, retried, sent, put_at, doubt, made, sent_after, bares, bare, outs, out, knows, has_xid, request, verdict, session_in}
 use Rattle.n41_model.specs.Sessions.{slots, phases, took_phase, plan_of, worked}
-use Rattle.n41_model.specs.Calls.{Call, call, owner, owner_at, slot_in, ledger, took_call, is_caller}
+use Rattle.n41_model.specs.Calls.{Call, command, call, owner, owner_at, slot_in, ledger, took_call, is_caller}
 use Rattle.n41_model.specs.Kept.{MayTake}
 use Rattle.n41_model.proofs.Slots.{Seats}
 use Rattle.n41_view.specs.View.{View, view, facts_of, held_of, slot_of, slots_from, seat_of, seat_with, seats_from}
@@ -125,11 +125,11 @@ asked_by n js y = owner_at (ledger n js).owners (slot_in (request js y.xid))
 
 took_seat_at : (n : ℕ) (js : List Event) (c p d : ℕ) (y : Reply) (b : Bool) → is_caller (asked_by n js y) d ≡ b → took_seat (moment js) (told n js y) y (seat_of n js d) ≡ seat_of n (Took c p y ∷ js) d
 took_seat_at n js c p d y b e =
-    let a : took_seat (moment js) (told n js y) y (seat_of n js d) ≡ (if b then seat_with n js d (took_call (moment js) (plan_of js y) (verdict js y) y (call n js d)) else seat_of n js d) = ap (λ (z : Bool). if z then seat_with n js d (took_call (moment js) (plan_of js y) (verdict js y) y (call n js d)) else seat_of n js d) e in
-    let f : call n (Took c p y ∷ js) d ≡ (if b then took_call (moment js) (plan_of js y) (verdict js y) y (call n js d) else call n js d) = ap (λ (z : Bool). if z then took_call (moment js) (plan_of js y) (verdict js y) y (call n js d) else call n js d) e in
+    let a : took_seat (moment js) (told n js y) y (seat_of n js d) ≡ (if b then seat_with n js d (took_call (moment js) (command js d) (plan_of js y) (verdict js y) y (call n js d)) else seat_of n js d) = ap (λ (z : Bool). if z then seat_with n js d (took_call (moment js) (command js d) (plan_of js y) (verdict js y) y (call n js d)) else seat_of n js d) e in
+    let f : call n (Took c p y ∷ js) d ≡ (if b then took_call (moment js) (command js d) (plan_of js y) (verdict js y) y (call n js d) else call n js d) = ap (λ (z : Bool). if z then took_call (moment js) (command js d) (plan_of js y) (verdict js y) y (call n js d) else call n js d) e in
     let g = ap (λ (k : Call). seat_with n js d k) (sym f) in
     a ∙ (both b ∙ g) where
-      both : (b : Bool) → (if b then seat_with n js d (took_call (moment js) (plan_of js y) (verdict js y) y (call n js d)) else seat_of n js d) ≡ seat_with n js d (if b then took_call (moment js) (plan_of js y) (verdict js y) y (call n js d) else call n js d)
+      both : (b : Bool) → (if b then seat_with n js d (took_call (moment js) (command js d) (plan_of js y) (verdict js y) y (call n js d)) else seat_of n js d) ≡ seat_with n js d (if b then took_call (moment js) (command js d) (plan_of js y) (verdict js y) y (call n js d) else call n js d)
       both true = refl
       both false = refl
 

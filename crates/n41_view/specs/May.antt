@@ -11,7 +11,7 @@ use Rattle.n41_journal.specs.declared.events.Event.{Event}
 use Rattle.n41_journal.specs.declared.events.Event.TheVariants.{Began, Put, Took, CbTook, CbPut, Dialed, DialFailed, Broke, Ticked, Answered, Quit}
 use Rattle.n41_model.specs.declared.words.Item.{Item}
 use Rattle.n41_model.specs.declared.words.Setup.{Setup}
-use Rattle.n41_model.specs.Calls.{next_plan}
+use Rattle.n41_model.specs.Calls.{is_built}
 use Rattle.n41_view.specs.View.{View}
 use Rattle.n41_view.specs.Due.{due_in}
 use Rattle.n41_view.specs.Causes.{CauseIn, awaited_in, is_old_in}
@@ -24,7 +24,7 @@ pub record MayBeginIn (w : View) (c n : ℕ) (k : Command) (m : ℕ) (s : Seat) 
   pub idle : s.command ≡ None
   pub number_is : n ≡ suc s.number
   pub moment_is : m ≡ w.facts.moment
-  pub built : IsSome (next_plan (Some k))
+  pub built : is_built k ≡ true
 
 -- a request that is due goes on the standing connection, at its next place
 pub record MayPutIn (u : Setup) (w : View) (c p : ℕ) (r : Request) (i : Item) : Type 0 where

@@ -77,6 +77,7 @@ seat_with n js c k = record {
   since = k.since;
   attempts = k.attempts;
   earned = k.earned;
+  way = k.way;
 }
 
 abbrev pub seat_of : ℕ → List Event → ℕ → Seat

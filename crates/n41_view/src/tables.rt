@@ -1,6 +1,6 @@
 ghost use Rattle.std.specs.Prelude.{◌≡◌};
 
-use n41_model::{KnownClient, Phase, Sent};
+use n41_model::{KnownClient, Phase, Sent, Way};
 use n41_results::SessionMade;
 use n41_types::{Answer, Command, Request};
 
@@ -97,4 +97,6 @@ pub struct Seat {
     pub attempts: u64,
     /// The answer that its last reply gives.
     pub earned: Option<Answer>,
+    /// How far its walk has come.
+    pub way: Way,
 }

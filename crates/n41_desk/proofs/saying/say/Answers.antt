@@ -1,21 +1,11 @@
-use Rattle.std.proofs.Common.{◌≡◌, ◌≤◌, ℕ, length, subst, sym, arith}
-use Rattle.n41_types.specs.declared.plans.Request.{Request}
-use Rattle.n41_requests.specs.Requests.{IsSpellable, Fits, spelled}
+use Rattle.std.proofs.Common.{◌≡◌, ◌≤◌, ℕ, length, arith}
+use Rattle.n41_requests.specs.Requests.{spelled}
 use Rattle.n41_desk.proofs.Linked.{says, sends, put_something}
-use Rattle.n41_desk.proofs.Small.{due_short}
 use Rattle.n41_desk.proofs.saying.say.Goals as goal
-
-pub request_fits-requires : goal.request_fits-requires
-request_fits-requires g c =
-    let h = rw c.in-Some.is at c.in_ok-packet.ensures.some in
-    let s = due_short c.args.core.now.setup c.args.core.now.events h.0 c.in-Some.packet.request c.requires.owner c.kept.ensures h.1.due in
-    subst (λ (q : Request). IsSpellable q) (sym c.request.ensures) s.1
 
 pub tell-sent-requires-clause-short : goal.tell-sent-requires-clause-short
 tell-sent-requires-clause-short g c =
-    let h = rw c.in-Some.is at c.in_ok-packet.ensures.some in
-    let s = due_short c.args.core.now.setup c.args.core.now.events h.0 c.in-Some.packet.request c.requires.owner c.kept.ensures h.1.due in
-    let l : length (spelled c.in-Some.packet.request) ≤ 2000 = c.small_requests.ensures c.in-Some.packet.request s.0 (subst (λ (q : Request). Fits q) c.request.ensures c.request_fits.ensures) in
+    let l : length (spelled c.in-Some.packet.request) ≤ 4000 = rw c.in-Some.is at c.in_ok-packet.ensures.short in
     omega (arith, l)
 
 pub returns-in_default-clause-fares : goal.returns-in_default-clause-fares

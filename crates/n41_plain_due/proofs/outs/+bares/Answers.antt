@@ -1,5 +1,4 @@
-use Rattle.std.proofs.Common.{◌≡◌, ◌≢◌, ◌+◌, ◌<◌, ◌≤◌, ℕ, Option, slice_get, drop, length, sym, ap, ◌∙◌, arith}
-use Rattle.n41_types.specs.declared.plans.Request.{Request}
+use Rattle.std.proofs.Common.{◌≡◌, ◌+◌, ◌<◌, ◌≤◌, ℕ, slice_get, drop, length, sym, ap, ◌∙◌, arith}
 use Rattle.n41_model.specs.Requests.{bares, without}
 use Rattle.n41_plain_due.proofs.Lists.{bares_length, no_more, left_none, left_ended, left_here, left_next}
 use Rattle.n41_plain_due.proofs.outs.+bares.Goals as goal

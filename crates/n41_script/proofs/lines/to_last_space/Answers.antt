@@ -1,5 +1,5 @@
 use Rattle.std.proofs.Common.{sym}
-use Rattle.n41_script.proofs.Cuts.{before_last_space, all_one_word}
+use Rattle.n41_script.proofs.Ends.{before_last_space, all_one_word}
 use Rattle.n41_script.proofs.lines.to_last_space.Goals as goal
 
 pub returns-in-Some : goal.returns-in-Some

@@ -1,6 +1,6 @@
-use Rattle.std.proofs.Common.{◌≡◌, ◌∙◌, sym, subst, arith}
-use Rattle.n41_script.specs.declared.fault.ScriptFault.{ScriptFault}
-use Rattle.n41_script.specs.Lines.{lines}
+use Rattle.std.proofs.Common.{◌∙◌, sym, subst, arith}
+use Rattle.n41_words.specs.declared.fault.ScriptFault.{ScriptFault}
+use Rattle.n41_words.specs.Lines.{lines}
 use Rattle.n41_script.specs.Scripts.{IsLineFault}
 use Rattle.n41_script.proofs.Steps.{said_more, left_more, refused}
 use Rattle.n41_script.proofs.reading.read_lines.Goals as goal

@@ -1,5 +1,5 @@
 use Rattle.std.proofs.Common.{◌≡◌, ◌≤◌, ◌+◌, take, drop, length, Ok}
-use Rattle.n41_script.specs.Lines.{lines}
+use Rattle.n41_words.specs.Lines.{lines}
 use Rattle.n41_script.specs.Scripts.{said_by}
 use Rattle.n41_script.proofs.reading.read_lines.Given as goal
 

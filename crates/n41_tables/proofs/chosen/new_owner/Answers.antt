@@ -1,4 +1,4 @@
-use Rattle.std.proofs.Common.{◌≡◌, None, sym, ◌∙◌}
+use Rattle.std.proofs.Common.{None, sym, ◌∙◌}
 use Rattle.n41_tables.proofs.Others.{then_of, else_of}
 use Rattle.n41_tables.proofs.chosen.new_owner.Goals as goal
 

@@ -1,4 +1,4 @@
-use Rattle.std.proofs.Common.{◌≡◌, refl, add-one}
+use Rattle.std.proofs.Common.{add-one}
 use Rattle.n41_tables.proofs.facts.took_facts.Goals as goal
 
 pub returns : goal.returns

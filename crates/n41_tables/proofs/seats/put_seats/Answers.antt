@@ -1,4 +1,4 @@
-use Rattle.std.proofs.Common.{◌≡◌, ◌+◌, ◌≤◌, get_or, sym, arith}
+use Rattle.std.proofs.Common.{◌≤◌, get_or, sym, arith}
 use Rattle.n41_tables.proofs.Others.{put_there, put_past, put_nowhere}
 use Rattle.n41_tables.proofs.Soundness.{tried_at}
 use Rattle.n41_tables.proofs.seats.put_seats.Goals as goal

@@ -11,9 +11,9 @@ returns-in_default c =
 pub returns-then-index-seats : goal.returns-then-index-seats
 returns-then-index-seats c =
     let e : c.args.said.now.owner ≡ Some c.in-Some.caller = ap (λ (a : Said). a.owner) (sym c.said.view_is) ∙ c.in-Some.is in
-    sym (took_past c.args.moment c.args.said.now c.args.reply.now c.in-Some.caller c.args.seats.now e c.requires c.if-index-seats.true)
+    sym (took_past c.args.moment c.args.said.now c.args.reply.now c.in-Some.caller c.args.seats.now e c.requires.placed c.if-index-seats.true)
 
 pub returns : goal.returns
 returns c =
     let e : c.args.said.now.owner ≡ Some c.in-Some.caller = ap (λ (a : Said). a.owner) (sym c.said.view_is) ∙ c.in-Some.is in
-    took_there c.args.moment c.args.said.now c.args.reply.now c.in-Some.caller c.args.seats.now c.index-seats-index.result c.took_seat.new.seat e c.requires c.if-index-seats.false c.took_seat.ensures
+    took_there c.args.moment c.args.said.now c.args.reply.now c.in-Some.caller c.args.seats.now c.index-seats-index.result c.took_seat.new.seat e c.requires.placed c.if-index-seats.false c.took_seat.ensures

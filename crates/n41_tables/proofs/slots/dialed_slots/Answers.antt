@@ -1,4 +1,4 @@
-use Rattle.std.proofs.Common.{arith, ◌≡◌, ◌<◌, length, refl, ◌∙◌}
+use Rattle.std.proofs.Common.{arith, ◌<◌, length, refl, ◌∙◌}
 use Rattle.n41_view.specs.Step.{dialed_slot}
 use Rattle.n41_view.proofs.InPlace.{stepped_next, stepped_whole}
 use Rattle.n41_tables.proofs.slots.dialed_slots.Goals as goal

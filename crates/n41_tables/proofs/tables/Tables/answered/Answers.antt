@@ -1,4 +1,4 @@
-use Rattle.std.proofs.Common.{◌≡◌, ◌+◌, ◌∙◌, map, ap}
+use Rattle.std.proofs.Common.{◌≡◌, ◌∙◌, map, ap}
 use Rattle.std.specs.Vec.{with_items}
 use Rattle.n41_journal.specs.declared.events.Event.TheVariants.{Answered}
 use Rattle.n41_view.specs.View.{View}

@@ -1,7 +1,6 @@
-use Rattle.std.proofs.Common.{◌≡◌, ℕ, ◌∙◌, refl, ap, add-one}
+use Rattle.std.proofs.Common.{ℕ, ◌∙◌, refl, ap, add-one}
 use Rattle.n41_journal.specs.declared.events.Event.TheVariants.{CbPut}
 use Rattle.n41_view.specs.View.{View}
-use Rattle.n41_view.specs.declared.tables.Facts.{Facts}
 use Rattle.n41_view.specs.Step.{step, counted}
 use Rattle.n41_tables.specs.Inside.{inside}
 use Rattle.n41_tables.proofs.Moved.{ready, parts}

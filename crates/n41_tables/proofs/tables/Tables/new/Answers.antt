@@ -1,4 +1,4 @@
-use Rattle.std.proofs.Common.{◌≡◌, ◌≤◌, None, [], refl, vec_capacity, arith}
+use Rattle.std.proofs.Common.{◌≤◌, None, [], refl, vec_capacity, arith}
 use Rattle.n41_view.specs.View.{view}
 use Rattle.n41_tables.proofs.Moved.{parts, ready_new}
 use Rattle.n41_tables.proofs.tables.Tables.new.Goals as goal

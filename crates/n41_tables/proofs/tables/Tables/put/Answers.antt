@@ -1,9 +1,8 @@
-use Rattle.std.proofs.Common.{◌≡◌, ◌∙◌, map, ap}
+use Rattle.std.proofs.Common.{◌∙◌, ap}
 use Rattle.std.specs.Vec.{with_items}
 use Rattle.n41_journal.specs.declared.events.Event.TheVariants.{Put}
 use Rattle.n41_view.specs.View.{View}
-use Rattle.n41_view.specs.Step.{step, put_slot, put_seat, new_owner, put_facts}
-use Rattle.n41_tables.specs.Inside.{inside}
+use Rattle.n41_view.specs.Step.{step, put_slot, put_seat}
 use Rattle.n41_tables.proofs.Moved.{ready, with_map, put_moved, owner_is, put_facts_is, tried_room}
 use Rattle.n41_tables.proofs.tables.Tables.put.Goals as goal
 

@@ -1,8 +1,7 @@
-use Rattle.std.proofs.Common.{◌≡◌, ◌∙◌, refl, ap, add-one}
+use Rattle.std.proofs.Common.{◌∙◌, refl, ap}
 use Rattle.n41_journal.specs.declared.events.Event.TheVariants.{Ticked}
 use Rattle.n41_view.specs.View.{View}
-use Rattle.n41_view.specs.declared.tables.Facts.{Facts}
-use Rattle.n41_view.specs.Step.{step, counted}
+use Rattle.n41_view.specs.Step.{step}
 use Rattle.n41_tables.specs.Inside.{inside}
 use Rattle.n41_tables.proofs.Moved.{ready, parts}
 use Rattle.n41_tables.proofs.tables.Tables.ticked.Goals as goal

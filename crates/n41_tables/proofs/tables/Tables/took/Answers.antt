@@ -1,4 +1,4 @@
-use Rattle.std.proofs.Common.{◌≡◌, ◌≤◌, ◌∙◌, map, ap, vec_capacity, arith}
+use Rattle.std.proofs.Common.{◌≤◌, ◌∙◌, ap, vec_capacity, arith}
 use Rattle.std.specs.Vec.{with_items}
 use Rattle.n41_journal.specs.declared.events.Event.TheVariants.{Took}
 use Rattle.n41_view.specs.View.{View}

@@ -1,0 +1,4 @@
+pub mod Verbs
+pub mod Steps
+pub mod Nexts
+pub mod Chains

@@ -1,0 +1,40 @@
+use Rattle.std.proofs.Common.{rules}
+use Rattle.n41_types.specs.declared.commands.Command.TheVariants as command
+use Rattle.n41_commands.specs.Commands.{command_with, ended, kind_of, label}
+use Rattle.n41_commands.specs.declared.verb.Verb.TheVariants as verb
+use Rattle.n41_commands.proofs.Chains.{at_end, from_here, no_end, onto, onto_span, stops, stops_span}
+use Rattle.n41_commands.proofs.locks.lock.Goals as goal
+
+pub returns-in_err-label : goal.returns-in_err-label
+returns-in_err-label c =
+    let at0 = from_here c.args.reader.now (command_with verb.Lock c.args.reader.now.long) in
+    stops label _ c.label.new.self c.in_err-label.field-0.0 c.from_residual.result (search rules) at0 c.in_err-label.ensures
+
+pub returns-in_err-kind : goal.returns-in_err-kind
+returns-in_err-kind c =
+    let at0 = from_here c.args.reader.now (command_with verb.Lock c.args.reader.now.long) in
+    let at1 = onto label _ c.label.new.self c.in_ok-label.label at0 c.in_ok-label.ensures in
+    stops kind_of _ c.lock_kind.new.self c.in_err-kind.field-0.0 c.from_residual-in_err-kind.result (search rules) at1 c.in_err-kind.ensures
+
+pub returns-in_err-span : goal.returns-in_err-span
+returns-in_err-span c =
+    let at0 = from_here c.args.reader.now (command_with verb.Lock c.args.reader.now.long) in
+    let at1 = onto label _ c.label.new.self c.in_ok-label.label at0 c.in_ok-label.ensures in
+    let at2 = onto kind_of _ c.lock_kind.new.self c.in_ok-kind.kind at1 c.in_ok-kind.ensures in
+    stops_span (λ x2 ws2. ended c.args.reader.now.long ws2 (command.Lock c.in_ok-label.label c.in_ok-kind.kind x2)) c.span.new.self c.in_err-span.field-0.0 c.from_residual-in_err-span.result (search rules) at2 c.in_err-span.ensures
+
+pub returns-in_err-end : goal.returns-in_err-end
+returns-in_err-end c =
+    let at0 = from_here c.args.reader.now (command_with verb.Lock c.args.reader.now.long) in
+    let at1 = onto label _ c.label.new.self c.in_ok-label.label at0 c.in_ok-label.ensures in
+    let at2 = onto kind_of _ c.lock_kind.new.self c.in_ok-kind.kind at1 c.in_ok-kind.ensures in
+    let at3 = onto_span (λ x2 ws2. ended c.args.reader.now.long ws2 (command.Lock c.in_ok-label.label c.in_ok-kind.kind x2)) c.span.new.self c.in_ok-span.span at2 c.in_ok-span.ensures in
+    no_end (command.Lock c.in_ok-label.label c.in_ok-kind.kind c.in_ok-span.span) c.in_err-end.field-0.0 c.from_residual-in_err-end.result (search rules) at3 c.in_err-end.ensures
+
+pub returns : goal.returns
+returns c =
+    let at0 = from_here c.args.reader.now (command_with verb.Lock c.args.reader.now.long) in
+    let at1 = onto label _ c.label.new.self c.in_ok-label.label at0 c.in_ok-label.ensures in
+    let at2 = onto kind_of _ c.lock_kind.new.self c.in_ok-kind.kind at1 c.in_ok-kind.ensures in
+    let at3 = onto_span (λ x2 ws2. ended c.args.reader.now.long ws2 (command.Lock c.in_ok-label.label c.in_ok-kind.kind x2)) c.span.new.self c.in_ok-span.span at2 c.in_ok-span.ensures in
+    at_end (command.Lock c.in_ok-label.label c.in_ok-kind.kind c.in_ok-span.span) tt at3 c.in_ok-end.ensures

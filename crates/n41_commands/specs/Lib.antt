@@ -1,0 +1,4 @@
+pub mod Callers
+pub mod Paths
+pub mod Commands
+pub mod Cursors

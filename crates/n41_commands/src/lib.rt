@@ -1,0 +1,20 @@
+//! The commands of a script, each read from the words of a line.
+#![tactic(auto)]
+
+mod callers;
+mod commands;
+mod directories;
+mod ends;
+mod files;
+mod forms;
+mod locks;
+mod paths;
+mod reader;
+#[cfg(test)]
+mod tests;
+mod verb;
+
+pub use callers::{is_caller, is_kept};
+pub use commands::{read_command, read_command_with};
+pub use ends::end_fault;
+pub use verb::{Verb, read_verb};

@@ -1,0 +1,112 @@
+-- Whether a command has a next plan, and what is due then.
+use Rattle.std.proofs.Common.{◌≡◌, ℕ, ◌<◌, ◌≤◌, Bool, true, false, ◌&&◌, not, List, [], ◌∷◌, Option, Some, None, take, length, slice_get, refl, ◌∙◌, ap, subst, arith}
+use Rattle.std.specs.Prelude.{is_some}
+use Rattle.n41_types.specs.declared.commands.Command.{Command}
+use Rattle.n41_types.specs.declared.plans.Place.{Place}
+use Rattle.n41_types.specs.declared.plans.Plan.{Plan}
+use Rattle.n41_types.specs.declared.plans.Plan.TheVariants as plan
+use Rattle.n41_types.specs.declared.plans.Request.{Request}
+use Rattle.n41_model.specs.declared.words.Item.TheVariants.{Fresh}
+use Rattle.n41_model.specs.declared.words.Setup.{Setup}
+use Rattle.n41_model.specs.declared.words.Way.{Way}
+use Rattle.n41_model.specs.Calls.{ahead, goal, make_dir, next_plan, remove, rename, walk_most, walk_or}
+use Rattle.n41_model.specs.Due.{only_if, with_plan, is_running}
+use Rattle.n41_view.specs.declared.tables.Seat.{Seat}
+use Rattle.n41_view.specs.Due.{finishing_in, is_ready_seat, begins_seat, new_on, due_item}
+use Rattle.n41_view.specs.Step.{seat_plan}
+use Rattle.n41_view.specs.View.{View}
+use Rattle.n41_due.specs.Order.{can_begin, began_of}
+use Rattle.n41_due.proofs.First.{none_is}
+
+-- ---- by the parts of what is asked for
+
+pub has_made : (at : Place) (o : Option (List ℕ)) → is_some (make_dir at o) ≡ is_some o
+has_made at None = refl
+has_made at (Some n) = refl
+
+pub has_removed : (at : Place) (o : Option (List ℕ)) → is_some (remove at o) ≡ is_some o
+has_removed at None = refl
+has_removed at (Some n) = refl
+
+pub has_renamed : (from : Option Place) (old : Option (List ℕ)) (at : Place) (new : Option (List ℕ)) → is_some (rename from old at new) ≡ (is_some from && is_some old && is_some new)
+has_renamed None old at new = refl
+has_renamed (Some d) None at new = refl
+has_renamed (Some d) (Some m) at None = refl
+has_renamed (Some d) (Some m) at (Some n) = refl
+
+walks : (most : ℕ) (at : Place) (ns : List (List ℕ)) (p : Option Plan) → 1 ≤ length ns → Some (plan.Walk at (take most ns)) ≡ walk_or most at ns p
+walks most at [] p l = absurd (omega (arith, l))
+walks most at (n ∷ ns) p l = refl
+
+pub walk_next : (most : ℕ) (k : Command) (w : Way) (ns names : List (List ℕ)) (at : Place) → ns ≡ ahead k w → 1 ≤ length ns → at ≡ w.at → names ≡ take most ns → Some (plan.Walk at names) ≡ next_plan most (Some k) w
+walk_next most k w ns names at e l f g =
+    ap (λ (xs : List (List ℕ)). Some (plan.Walk at xs)) g
+    ∙ ap (λ (a : Place). Some (plan.Walk a (take most ns))) f
+    ∙ ap (λ (xs : List (List ℕ)). Some (plan.Walk w.at (take most xs))) e
+    ∙ walks most w.at (ahead k w) (goal k w) (subst (λ (xs : List (List ℕ)). 1 ≤ length xs) e l)
+
+-- ---- it does not hang on how many names go into a walk
+
+any_walk : (m n : ℕ) (at : Place) (ns : List (List ℕ)) (p : Option Plan) → is_some (walk_or m at ns p) ≡ is_some (walk_or n at ns p)
+any_walk m n at [] p = refl
+any_walk m n at (x ∷ xs) p = refl
+
+any_next : (m n : ℕ) (o : Option Command) (w : Way) → is_some (next_plan m o w) ≡ is_some (next_plan n o w)
+any_next m n None w = refl
+any_next m n (Some k) w = any_walk m n w.at (ahead k w) (goal k w)
+
+-- ---- what is due then
+
+and_both : (b : Bool) (o : Option Request) → is_some (only_if b o) ≡ (b && is_some o)
+and_both true o = refl
+and_both false o = refl
+
+with_room : (f : Plan → Option Request) (o : Option Plan) → ((p : Plan) → is_some (f p) ≡ true) → is_some (with_plan o f) ≡ is_some o
+with_room f None h = refl
+with_room f (Some p) h = h p
+
+begins : (u : Setup) (w : View) (o : Option Seat) → ((p : Plan) → is_some (new_on u w p) ≡ true) → is_some (begins_seat u w o) ≡ can_begin w.facts.moment o
+begins u w None h = refl
+begins u w (Some s) h =
+    and_both (is_ready_seat w.facts.moment s) (with_plan (seat_plan (walk_most w.facts.session) s) (new_on u w))
+    ∙ ap (λ (b : Bool). is_ready_seat w.facts.moment s && b) (with_room (new_on u w) (seat_plan (walk_most w.facts.session) s) h ∙ any_next (walk_most w.facts.session) 1 s.command s.way)
+
+-- where new requests can go, a caller's is due exactly where its command can begin
+pub fresh_is : (u : Setup) (w : View) (c : ℕ) → finishing_in w ≡ false → is_running w.facts.phase ≡ true → ((p : Plan) → is_some (new_on u w p) ≡ true) → is_some (due_item u w (Fresh c)) ≡ can_begin w.facts.moment (slice_get w.seats c)
+fresh_is u w c f r h =
+    and_both (not (finishing_in w) && is_running w.facts.phase) (begins_seat u w (slice_get w.seats c))
+    ∙ ap (λ (b : Bool). (not b && is_running w.facts.phase) && is_some (begins_seat u w (slice_get w.seats c))) f
+    ∙ ap (λ (b : Bool). b && is_some (begins_seat u w (slice_get w.seats c))) r
+    ∙ begins u w (slice_get w.seats c) h
+
+no_plan : (f : Plan → Option Request) (o : Option Plan) → ((p : Plan) → is_some (f p) ≡ false) → is_some (with_plan o f) ≡ false
+no_plan f None h = refl
+no_plan f (Some p) h = h p
+
+and_false : (a b : Bool) → b ≡ false → (a && b) ≡ false
+and_false true b e = e
+and_false false b e = refl
+
+unroomed : (u : Setup) (w : View) (o : Option Seat) → ((p : Plan) → is_some (new_on u w p) ≡ false) → is_some (begins_seat u w o) ≡ false
+unroomed u w None h = refl
+unroomed u w (Some s) h =
+    and_both (is_ready_seat w.facts.moment s) (with_plan (seat_plan (walk_most w.facts.session) s) (new_on u w))
+    ∙ and_false (is_ready_seat w.facts.moment s) (is_some (with_plan (seat_plan (walk_most w.facts.session) s) (new_on u w))) (no_plan (new_on u w) (seat_plan (walk_most w.facts.session) s) h)
+
+-- where no new request can go, none is due
+pub no_room : (u : Setup) (w : View) (c : ℕ) → ((p : Plan) → is_some (new_on u w p) ≡ false) → due_item u w (Fresh c) ≡ None
+no_room u w c h =
+    none_is (due_item u w (Fresh c))
+    (and_both (not (finishing_in w) && is_running w.facts.phase) (begins_seat u w (slice_get w.seats c)) ∙ and_false (not (finishing_in w) && is_running w.facts.phase) (is_some (begins_seat u w (slice_get w.seats c))) (unroomed u w (slice_get w.seats c) h))
+
+later : (w : View) (b : Bool) (c d : ℕ) → can_begin w.facts.moment (slice_get w.seats d) ≡ b → (b ≡ true → began_of (slice_get w.seats c) ≤ began_of (slice_get w.seats d)) → began_of (slice_get w.seats d) < began_of (slice_get w.seats c) → b ≡ false
+later w false c d e h l = refl
+later w true c d e h l = let g = h refl in absurd (omega (arith, g, l))
+
+-- the caller whose command began first is the first whose request is due
+pub fresh_first : (u : Setup) (w : View) (c d : ℕ) → finishing_in w ≡ false → is_running w.facts.phase ≡ true → ((p : Plan) → is_some (new_on u w p) ≡ true) → (can_begin w.facts.moment (slice_get w.seats d) ≡ true → began_of (slice_get w.seats c) ≤ began_of (slice_get w.seats d)) → began_of (slice_get w.seats d) < began_of (slice_get w.seats c) → due_item u w (Fresh d) ≡ None
+fresh_first u w c d f r h g l =
+    none_is (due_item u w (Fresh d)) (fresh_is u w d f r h ∙ later w (can_begin w.facts.moment (slice_get w.seats d)) c d refl g l)
+
+pub fresh_none : (u : Setup) (w : View) (d : ℕ) → finishing_in w ≡ false → is_running w.facts.phase ≡ true → ((p : Plan) → is_some (new_on u w p) ≡ true) → can_begin w.facts.moment (slice_get w.seats d) ≡ false → due_item u w (Fresh d) ≡ None
+fresh_none u w d f r h e = none_is (due_item u w (Fresh d)) (fresh_is u w d f r h ∙ e)

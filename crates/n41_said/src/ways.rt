@@ -1,0 +1,174 @@
+ghost use Rattle.std.specs.Prelude.{◌≡◌, option_copied, IfOk};
+ghost use Rattle.n41_model.specs.Calls.{walk_most, at_root, parents, last_of, route, ahead, turned, way_of, walked, walked_by, step_of, way_after, reached, reached_in};
+ghost use Rattle.n41_model.specs.Sessions.{plan_in};
+ghost use Rattle.n41_results.specs.declared.replies.Reply.{Reply};
+ghost use Rattle.n41_said.specs.Handles.{fh_in};
+
+use n41_model::{Verdict, Way};
+use n41_results::{ReplyBody, Res, SessionMade};
+use n41_types::{Command, Fh, Name, NoMemory, Place, Plan, Request, Status};
+use std::mem;
+
+/// How many names go into one walk: 8, or what the session's operations leave beside SEQUENCE, PUTFH and GETFH.
+pub fn walk_most(session: Option<SessionMade>) -> u64
+    ensures { result ≡ walk_most session }
+{
+    match session {
+        None => 8,
+        Some(session) => 8.min(u64::from(session.fore.ops_max.saturating_sub(3))),
+    }
+}
+
+/// A command at its beginning stands at the root.
+fn at_root(old: Option<Place>) -> Way
+    ensures { result ≡ at_root old }
+{
+    Way {
+        at: Place::Root,
+        walked: 0,
+        old,
+    }
+}
+
+/// The names from the root to the directory that a path's last name is in.
+fn parents(path: &[Name]) -> &[Name]
+    ensures { result.now ≡ parents path.now }
+{
+    &path[..path.len().saturating_sub(1)]
+}
+
+/// The last name of a path.
+pub fn last_of(path: &[Name]) -> Option<&Name>
+    ensures { option_copied result ≡ last_of path.now }
+{
+    path.last()
+}
+
+/// The names that a command walks. A rename walks to its old name first.
+fn route<'a>(command: &'a Command, old: &Option<Place>) -> &'a [Name]
+    ensures { result.now ≡ route command.now old.now }
+{
+    match command {
+        Command::Stat { path } => path.as_slice(),
+        Command::MakeDir { path } => parents(path.as_slice()),
+        Command::Remove { path } => parents(path.as_slice()),
+        Command::Rename { from, to } => match old {
+            None => parents(from.as_slice()),
+            Some(_) => parents(to.as_slice()),
+        },
+        _ => &[],
+    }
+}
+
+/// The names that are still to be walked.
+pub fn ahead<'a>(command: &'a Command, way: &Way) -> &'a [Name]
+    ensures { result.now ≡ ahead command.now way.now }
+{
+    let route = route(command, &way.old);
+    let walked = route.len().min(way.walked as usize);
+    &route[walked..]
+}
+
+/// The directory of the old name was reached: the walk to the new one begins at the root.
+fn turned(command: &Command, way: &mut Way)
+    ensures { way.exit.now ≡ turned command.now way.entry.now }
+{
+    if let Command::Rename { .. } = command {
+        if way.old.is_none() && ahead(command, way).is_empty() {
+            let reached = mem::replace(&mut way.at, Place::Root);
+            way.walked = 0;
+            way.old = Some(reached);
+        }
+    }
+}
+
+/// How far a command has come that begins.
+pub fn way_of(command: &Command) -> Way
+    ensures { result ≡ way_of command.now }
+{
+    let mut way = at_root(None);
+    turned(command, &mut way);
+    way
+}
+
+/// A walk of so many names came to this file, and no further than to the end of its route.
+fn walked(command: &Command, names: u64, fh: Fh, way: &mut Way)
+    ensures { way.exit.now ≡ walked command.now names fh way.entry.now }
+{
+    let end = route(command, &way.old).len() as u64;
+    way.at = Place::At(fh);
+    way.walked = way.walked.saturating_add(names).min(end);
+    turned(command, way);
+}
+
+/// A walk over these names was answered OK, maybe with the file that it came to.
+fn walked_by(command: &Command, names: &[Name], reached: Option<Fh>, way: &mut Way)
+    ensures { way.exit.now ≡ walked_by command.now names.now reached way.entry.now }
+{
+    if let Some(fh) = reached {
+        walked(command, names.len() as u64, fh, way);
+    }
+}
+
+/// A request of a command was answered OK.
+fn step_of(command: Option<&Command>, request: Option<&Request>, reached: Option<Fh>, way: &mut Way)
+    ensures { (y : Reply) → reached ≡ reached_in y.body → way.exit.now ≡ step_of (option_copied command.entry) (plan_in (option_copied request.entry)) y way.entry.now }
+{
+    let (Some(command), Some(request)) = (command, request) else {
+        return;
+    };
+    if let Plan::Walk { names, .. } = &request.plan {
+        walked_by(command, names.as_slice(), reached, way);
+    }
+}
+
+/// A request of a command was answered, with this verdict and the filehandle that the reply came to: a walk that was answered OK leads on.
+pub fn way_after(
+    command: Option<&Command>,
+    request: Option<&Request>,
+    verdict: Option<Verdict>,
+    reached: Option<Fh>,
+    way: &mut Way,
+)
+    ensures { (y : Reply) → reached ≡ reached_in y.body → way.exit.now ≡ way_after (option_copied command.entry) (plan_in (option_copied request.entry)) verdict y way.entry.now }
+{
+    match verdict {
+        Some(Verdict::Ran(status)) if status == Status::OK => {
+            step_of(command, request, reached, way);
+        }
+        _ => {}
+    }
+}
+
+/// The filehandle that a result tells.
+fn fh_in(last: &Res) -> Option<&Fh>
+    ensures { option_copied result ≡ fh_in last.now }
+{
+    match last {
+        Res::GetFh(Ok(fh)) => Some(fh),
+        _ => None,
+    }
+}
+
+/// The filehandle of a last GETFH.
+fn last_fh(results: &[Res]) -> Option<&Fh>
+    ensures { option_copied result ≡ reached results.now }
+{
+    match results.last() {
+        None => None,
+        Some(last) => fh_in(last),
+    }
+}
+
+/// The filehandle of a last GETFH of a reply.
+pub fn reached(body: &ReplyBody) -> Result<Option<Fh>, NoMemory>
+    ensures { IfOk result (λ fh. fh ≡ reached_in body.now) }
+{
+    let ReplyBody::Results { list, .. } = body else {
+        return Ok(None);
+    };
+    match last_fh(list.as_slice()) {
+        None => Ok(None),
+        Some(fh) => Ok(Some(fh.clone()?)),
+    }
+}

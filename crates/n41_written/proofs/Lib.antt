@@ -1,0 +1,5 @@
+pub mod ReadBack
+pub mod HexBack
+pub mod Words
+pub mod Forms
+pub mod Back
