@@ -2,3 +2,4 @@ pub mod Names
 pub mod Operations
 pub mod Plans
 pub mod Spans
+pub mod Texts

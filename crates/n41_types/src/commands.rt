@@ -1,9 +1,10 @@
 ghost use Rattle.std.specs.Prelude.{◌≡◌};
 
-use crate::names::{Names, Path};
+use crate::names::Path;
 use crate::owners::Label;
 use crate::spans::{LockKind, Mode, Span};
 use crate::statuses::{Loss, Status};
+use crate::texts::Texts;
 use bytes::Bytes;
 use std::alloc::AllocError;
 
@@ -176,7 +177,7 @@ pub enum Value {
     },
     /// The names in a directory, and whether there are more than are told.
     Names {
-        names: Names,
+        names: Texts,
         more: bool,
     },
     Made,

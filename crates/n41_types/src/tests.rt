@@ -1,6 +1,6 @@
 use crate::{
-    Answer, Bytes, Command, Fh, Label, LockKind, Locker, Name, NameFault, Names, Operation, Owner,
-    Place, Plan, PlanEvent, PlanLine, Request, Span, Stateid, Status, Value,
+    Answer, Bytes, Command, Fh, Label, LockKind, Locker, Name, NameFault, Operation, Owner, Place,
+    Plan, PlanEvent, PlanLine, Request, Span, Stateid, Status, Texts, Value,
 };
 use std::alloc::AllocError;
 
@@ -57,7 +57,7 @@ fn copies_are_equal(rt: HostRuntime) -> Result<(), AllocError> {
     };
     assert!(rt; command.clone()? == command);
     let answer = Answer::Done(Value::Names {
-        names: Names::from_vec(alloc, Vec::new(alloc))?,
+        names: Texts::from_vec(Vec::new(alloc)),
         more: true,
     });
     assert!(rt; answer.clone()? == answer);
