@@ -7,7 +7,7 @@ use Rattle.n41_model.specs.declared.words.Setup.{Setup}
 use Rattle.n41_model.specs.Calls.{command, number}
 use Rattle.n41_model.specs.Kept.{MayAnswer}
 use Rattle.n41_answers.specs.Index.{spent}
-use Rattle.n41_core.specs.Settled.{IsLight, IsDone}
+use Rattle.n41_core.specs.Settled.{IsDone}
 use Rattle.n41_core.specs.State.{AddsAnswers}
 
 -- `room` is for how many more events there is room, and `spare` the same for the places of each caller's answers
@@ -33,9 +33,8 @@ abbrev pub answers_with : Book → ℕ → ℕ → Answer → Book
 answers_with b c n a = record { setup = b.setup; events = Answered c n a ∷ b.events; room = b.room - 1; spare = spent b.spare c }
 
 -- an answer that the caller's command may have
-pub record AnswerFor (b : Book) (c n : ℕ) (a : Answer) : Type 0 where
-  pub may : MayAnswer b.setup b.events c n a
-  pub light : IsLight a
+abbrev pub AnswerFor : Book → ℕ → ℕ → Answer → Type 0
+AnswerFor b c n a = MayAnswer b.setup b.events c n a
 
 -- the caller's command was answered, or goes on
 pub record Settles (old new : Book) (c : ℕ) (xs : List Event) : Type 0 where

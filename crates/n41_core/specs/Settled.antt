@@ -1,11 +1,8 @@
 -- No command is unanswered that has its answer.
 use Rattle.std.specs.Prelude.{◌≡◌, ◌⊎◌, ◌<◌, ℕ, List, None}
-use Rattle.n41_types.specs.declared.commands.Answer.{Answer}
-use Rattle.n41_types.specs.declared.commands.Answer.TheVariants as answer
-use Rattle.n41_types.specs.declared.commands.Value.TheVariants as value
 use Rattle.n41_journal.specs.declared.events.Event.{Event}
 use Rattle.n41_model.specs.Requests.{rounds}
-use Rattle.n41_model.specs.Calls.{command, call}
+use Rattle.n41_model.specs.Calls.{command, call, given}
 use Rattle.n41_model.specs.Answers.{breach_at, round_limit}
 
 -- the last reply to the caller's command gives no answer, and no reply broke the rules
@@ -17,9 +14,10 @@ pub record Waits (n : ℕ) (js : List Event) (c : ℕ) : Type 0 where
 abbrev pub IsSettled : ℕ → List Event → Type 0
 IsSettled n js = (c : ℕ) → c < n → (command js c ≡ None) ⊎ Waits n js c
 
--- and it may go on waiting: a reply came in the last rounds
+-- and it may go on waiting: it is no pause that is over, and a reply came in the last rounds
 pub record GoesOn (n : ℕ) (js : List Event) (c : ℕ) : Type 0 where
   pub waits : Waits n js c
+  pub ungiven : given n js c ≡ None
   pub reached : rounds js < round_limit
 
 -- the caller's command is answered, or goes on
@@ -29,12 +27,3 @@ IsDone n js c = (command js c ≡ None) ⊎ GoesOn n js c
 -- every command that is unanswered goes on
 abbrev pub IsDecided : ℕ → List Event → Type 0
 IsDecided n js = (c : ℕ) → c < n → IsDone n js c
-
--- an answer that holds no memory
-abbrev pub IsLight : Answer → Type 0
-IsLight (answer.Done (value.Stat kind size fileid mode)) = Unit {0}
-IsLight (answer.Done value.Made) = Unit {0}
-IsLight (answer.Done value.Removed) = Unit {0}
-IsLight (answer.Done value.Renamed) = Unit {0}
-IsLight (answer.Done x) = ⊥
-IsLight a = Unit {0}

@@ -1,5 +1,7 @@
 -- What a client wants next (own).
 use Rattle.std.specs.Prelude.{◌≡◌, ℕ, ◌+◌, ◌^◌, ◌-◌, min, Bool, true, false, ◌&&◌, ◌||◌, ◌⊎◌, List, [], ◌∷◌, Option, Some, None, if◌then◌else◌, nat_le, is_none, is_some, IsSome}
+use Rattle.n41_types.specs.declared.commands.Command.{Command}
+use Rattle.n41_types.specs.declared.commands.Command.TheVariants as asks
 use Rattle.n41_model.specs.declared.words.Item.{Item}
 use Rattle.n41_model.specs.declared.words.Sent.{Sent}
 use Rattle.n41_model.specs.declared.words.Sent.TheVariants.{Never, Waits, Delayed, Unbound}
@@ -31,14 +33,20 @@ abbrev pub held_wait : ℕ → Option Held → Option ℕ
 held_wait m None = None
 held_wait m (Some h) = ahead m (delay_in h.sent)
 
--- when the command is tried again after a DELAY or GRACE
-abbrev pub seat_wait : ℕ → Seat → Option ℕ
-seat_wait m s = if is_none s.command || s.busy || is_some s.earned then None else ahead m s.since
-
 abbrev pub earlier : Option ℕ → Option ℕ → Option ℕ
 earlier None o = o
 earlier (Some a) None = Some a
 earlier (Some a) (Some b) = Some (min a b)
+
+-- when a pause is over that began at this moment
+abbrev pub pause_wait : ℕ → Option Command → Option ℕ
+pause_wait b (Some (asks.Pause s)) = Some (min (b + s) (2 ^ 64 - 1))
+pause_wait b k = None
+
+-- when the command is tried again after a DELAY or GRACE, or is over as a pause
+abbrev pub seat_wait : ℕ → Seat → Option ℕ
+seat_wait m s =
+    if is_none s.command || s.busy || is_some s.earned then None else earlier (ahead m s.since) (pause_wait s.began_on s.command)
 
 -- the earliest of this moment and of those that these slots wait for
 abbrev pub slots_wait : ℕ → List Slot → Option ℕ → Option ℕ

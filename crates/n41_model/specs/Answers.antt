@@ -12,7 +12,7 @@ use Rattle.n41_model.specs.declared.words.Verdict.{Verdict}
 use Rattle.n41_model.specs.declared.words.BareVerdict.{BareVerdict}
 use Rattle.n41_model.specs.Replies.{is_breach, is_bare_breach}
 use Rattle.n41_model.specs.Requests.{out, doubt, rounds, verdict, bare_verdict}
-use Rattle.n41_model.specs.Calls.{call, owner}
+use Rattle.n41_model.specs.Calls.{given, owner}
 
 abbrev pub breaks : Option Verdict → Option BareVerdict → Bool
 breaks (Some w) x = is_breach w
@@ -52,8 +52,8 @@ pub record UnreachableCause (n : ℕ) (js : List Event) (c : ℕ) (k : ℕ) : Ty
 
 -- the cause of an answer to the unanswered command of a caller
 abbrev pub HasCause : ℕ → List Event → ℕ → Answer → Type 0
-HasCause n js c (answer.Done x) = (call n js c).earned ≡ Some (answer.Done x)
-HasCause n js c (answer.Refused s) = (call n js c).earned ≡ Some (answer.Refused s)
+HasCause n js c (answer.Done x) = given n js c ≡ Some (answer.Done x)
+HasCause n js c (answer.Refused s) = given n js c ≡ Some (answer.Refused s)
 HasCause n js c answer.Unknown = UnknownCause n js c
 HasCause n js c (answer.StateLost s) = ⊥
 HasCause n js c (answer.Unreachable k) = UnreachableCause n js c k

@@ -8,4 +8,6 @@ mod words;
 
 pub use laws::one_request_is_out;
 pub use verdicts::{gives_back, is_final, sequence_status};
-pub use words::{BareVerdict, Item, KnownClient, Phase, Sent, Setup, Standing, Verdict, Way};
+pub use words::{
+    BareVerdict, Item, KnownClient, Listed, Phase, Sent, Setup, Standing, Verdict, Way,
+};

@@ -1,6 +1,6 @@
 use bytes::Bytes;
 use n41_results::SessionMade;
-use n41_types::{Place, Status};
+use n41_types::{Gathered, Place, Status, Verifier};
 
 /// Who a client is. `callers` is from 1 to 64, and the owner has at most 1,024 bytes.
 #[derive(Debug, Drop)]
@@ -103,7 +103,17 @@ pub enum BareVerdict {
     Breach,
 }
 
-/// How far the walk of a command has come (own).
+/// What a listing has told so far (RFC 8881, section 18.23).
+#[derive(Drop, PartialEq, Eq)]
+pub struct Listed {
+    pub names: Gathered,
+    /// The place in the directory from which the next READDIR reads.
+    pub cookie: u64,
+    /// What the server wants to see with the cookie.
+    pub verifier: Verifier,
+}
+
+/// How far a command has come (own).
 #[derive(Drop, PartialEq, Eq)]
 pub struct Way {
     /// The file that was reached.
@@ -112,6 +122,8 @@ pub struct Way {
     pub walked: u64,
     /// The directory of a rename's old name, once the walk to it is done.
     pub old: Option<Place>,
+    /// What a listing has told, while it goes on.
+    pub listed: Option<Listed>,
 }
 
 /// A kind of request that may be due.

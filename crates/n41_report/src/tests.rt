@@ -1,7 +1,7 @@
 use crate::{answer_text, text};
 use n41_journal::{Event, Journal};
 use n41_script::{Script, read_script};
-use n41_types::{Answer, Bytes, Loss, Name, Names, NoMemory, Sequence, Status, Value};
+use n41_types::{Answer, Bytes, Loss, NoMemory, Status, Texts, Value};
 use std::alloc::Global;
 
 fn is_told(alloc: Global, answer: &Answer, want: &[u8]) -> bool {
@@ -121,14 +121,12 @@ fn attributes_are_told(rt: HostRuntime) {
     }
 }
 
-fn names_of(alloc: Global, texts: &[&[u8]]) -> Result<Names, NoMemory> {
+fn names_of(alloc: Global, texts: &[&[u8]]) -> Result<Texts, NoMemory> {
     let mut names = Vec::new(alloc);
     for text in texts {
-        if let Ok(name) = Name::of(alloc, text) {
-            names.push(name)?;
-        }
+        names.push(Bytes::copy_from_slice(alloc, text)?)?;
     }
-    Sequence::from_vec(alloc, names)
+    Ok(Texts::from_vec(names))
 }
 
 fn is_list(alloc: Global, texts: &[&[u8]], more: bool, want: &[u8]) -> bool {

@@ -5,7 +5,7 @@ ghost use Rattle.std.specs.List.{flat_map};
 ghost use Rattle.std.specs.Fmt.{decimal, digits};
 ghost use Rattle.n41_model.specs.Text.{hex_or_dash, decimal_or_dash, padded, mode_text, name_byte, name_text, end_text, value_text};
 
-use n41_types::{Name, Names, NoMemory, Value};
+use n41_types::{Bytes, NoMemory, Texts, Value};
 use std::alloc::Global;
 
 /// Adds these words.
@@ -143,7 +143,7 @@ fn put_name(out: &mut Vec<u8>, name: &[u8]) -> Result<(), NoMemory>
     Ok(())
 }
 
-fn put_each_name(out: &mut Vec<u8>, names: &[Name]) -> Result<(), NoMemory>
+fn put_each_name(out: &mut Vec<u8>, names: &[Bytes]) -> Result<(), NoMemory>
     ensures { OnOk result (out.new.items ≡ out.old.items ++ flat_map (λ n. codes " " ++ name_text n) names.now) }
 {
     for name in names {
@@ -153,7 +153,7 @@ fn put_each_name(out: &mut Vec<u8>, names: &[Name]) -> Result<(), NoMemory>
 }
 
 /// Adds what `list` gave.
-fn put_names(alloc: Global, out: &mut Vec<u8>, names: &Names, more: bool) -> Result<(), NoMemory>
+fn put_names(alloc: Global, out: &mut Vec<u8>, names: &Texts, more: bool) -> Result<(), NoMemory>
     ensures { OnOk result (out.new.items ≡ out.old.items ++ value_text (Value.Names names.now more)) }
 {
     put(out, "names ")?;

@@ -7,7 +7,7 @@ use Rattle.n41_types.specs.declared.plans.Class.TheVariants.{Changing}
 use Rattle.n41_types.specs.declared.plans.Request.{Request}
 use Rattle.n41_types.specs.Plans.{class_of}
 use Rattle.n41_model.specs.Answers.{round_limit}
-use Rattle.n41_model.specs.Calls.{is_caller}
+use Rattle.n41_model.specs.Calls.{is_caller, either, pause_given}
 use Rattle.n41_model.specs.Due.{only_if}
 use Rattle.n41_model.specs.Requests.{has_xid, is_waiting}
 use Rattle.n41_view.specs.View.{View}
@@ -32,10 +32,14 @@ doubts c (Some h) = is_caller h.owner c && is_changing (class_of h.request.plan)
 abbrev pub any_doubt : ℕ → List Slot → Bool
 any_doubt c ss = any_held (doubts c) ss
 
+-- the answer that the command of a caller has by now
+abbrev pub given_in : ℕ → Seat → Option Answer
+given_in m s = either s.earned (pause_given s.began_on m s.command)
+
 -- the cause of an answer to the command of the caller at this seat
 abbrev pub CauseIn : View → Seat → Answer → Type 0
-CauseIn w s (answer.Done x) = s.earned ≡ Some (answer.Done x)
-CauseIn w s (answer.Refused e) = s.earned ≡ Some (answer.Refused e)
+CauseIn w s (answer.Done x) = given_in w.facts.moment s ≡ Some (answer.Done x)
+CauseIn w s (answer.Refused e) = given_in w.facts.moment s ≡ Some (answer.Refused e)
 CauseIn w s answer.Unknown = (round_limit ≤ w.facts.rounds) × (any_doubt s.caller w.slots ≡ true)
 CauseIn w s (answer.StateLost e) = ⊥
 CauseIn w s (answer.Unreachable k) = (k ≡ round_limit) × (round_limit ≤ w.facts.rounds) × (any_doubt s.caller w.slots ≡ false)

@@ -13,7 +13,7 @@ use Rattle.n41_model.specs.declared.words.Setup.{Setup}
 use Rattle.n41_model.specs.Answers.{round_limit}
 use Rattle.n41_model.specs.Requests.{is_waiting}
 use Rattle.n41_model.specs.Sessions.{passed, unused_xid, xid_after}
-use Rattle.n41_model.specs.Calls.{walk_most, is_ready_call}
+use Rattle.n41_model.specs.Calls.{is_ready_call}
 use Rattle.n41_model.specs.Due.{only_if, with_plan, bare_with, goes_again, is_dead, is_running, is_session, bind_in, create_in, own_plan_in, destroy_in}
 use Rattle.n41_view.specs.View.{View}
 use Rattle.n41_view.specs.Step.{requests, call_of, seat_plan}
@@ -129,7 +129,7 @@ goes_slot m (Some s) = goes_held m s.held
 
 abbrev pub begins_seat : Setup → View → Option Seat → Option Request
 begins_seat u w None = None
-begins_seat u w (Some s) = only_if (is_ready_seat w.facts.moment s) (with_plan (seat_plan (walk_most w.facts.session) s) (new_on u w))
+begins_seat u w (Some s) = only_if (is_ready_seat w.facts.moment s) (with_plan (seat_plan w.facts.session s) (new_on u w))
 
 abbrev pub is_open_in : Facts → Bool
 is_open_in f = is_some f.standing && not (is_dead f.phase)

@@ -16,7 +16,7 @@ use Rattle.n41_model.specs.declared.words.Verdict.{Verdict}
 use Rattle.n41_model.specs.Replies.{is_final, gives_back, sequence_status, verdict_of, bare_verdict_of}
 use Rattle.n41_model.specs.Requests.{is_bare, is_on, turn_of, has_xid, knows, session_in, sent_after, is_waiting, slot_number}
 use Rattle.n41_model.specs.Sessions.{client_after, session_after, slots_after, bound_after, unbound_after, completed_after, completed_by, dialed_phase, broke_phase, worked, bare_phase, slot_phase, is_step_of, is_bare_delay, is_refused_complete, target_after}
-use Rattle.n41_model.specs.Calls.{Call, fresh_call, put_call, took_call, way_of, walk_most, next_plan, is_plan, is_ready_call, is_caller, in_running}
+use Rattle.n41_model.specs.Calls.{Call, fresh_call, put_call, took_call, answered_call, way_of, next_plan, is_plan, is_ready_call, is_caller, in_running}
 use Rattle.n41_model.specs.Answers.{breaks, place_or}
 use Rattle.n41_view.specs.View.{View}
 use Rattle.n41_view.specs.declared.tables.Facts.{Facts}
@@ -75,17 +75,17 @@ sooner_seat None s = s
 sooner_seat (Some d) s = if nat_lt s.began_at d.began_at then s else d
 
 -- the next plan of a caller's command, with so many names in a walk
-abbrev pub seat_plan : ℕ → Seat → Option Plan
-seat_plan most s = next_plan most s.command s.way
+abbrev pub seat_plan : Option SessionMade → Seat → Option Plan
+seat_plan o s = next_plan o s.command s.way
 
 -- its command can go on, and this plan is its next
-abbrev pub wants : ℕ → ℕ → Plan → Seat → Bool
-wants m most p s = is_ready_call m s.command (call_of s) && is_plan (seat_plan most s) p
+abbrev pub wants : ℕ → Option SessionMade → Plan → Seat → Bool
+wants m o p s = is_ready_call m s.command (call_of s) && is_plan (seat_plan o s) p
 
 -- the caller, of these and the best of those before, whose command began first and wants this plan
-abbrev pub chosen_from : ℕ → ℕ → Plan → Option Seat → List Seat → Option Seat
-chosen_from m most p best [] = best
-chosen_from m most p best (s ∷ ss) = chosen_from m most p (if wants m most p s then Some (sooner_seat best s) else best) ss
+abbrev pub chosen_from : ℕ → Option SessionMade → Plan → Option Seat → List Seat → Option Seat
+chosen_from m o p best [] = best
+chosen_from m o p best (s ∷ ss) = chosen_from m o p (if wants m o p s then Some (sooner_seat best s) else best) ss
 
 abbrev pub caller_in : Option Seat → Option ℕ
 caller_in None = None
@@ -99,7 +99,7 @@ is_new_in w r (Some n) = not (holds r.xid (held_at (slice_get w.slots n)))
 -- the caller whose a request is that is put; None where it is the client's own or was put before
 abbrev pub new_owner : View → Request → Option ℕ
 new_owner w r =
-    if is_new_in w r (slot_number r.slot) then in_running w.facts.phase (caller_in (chosen_from w.facts.moment (walk_most w.facts.session) r.plan None w.seats)) else None
+    if is_new_in w r (slot_number r.slot) then in_running w.facts.phase (caller_in (chosen_from w.facts.moment w.facts.session r.plan None w.seats)) else None
 
 -- ---- what a reply does
 
@@ -306,9 +306,9 @@ slots_step w e ss = ss
 
 -- ---- seats
 
-abbrev pub began_seat : ℕ → ℕ → Command → ℕ → Seat → Seat
-began_seat d n k at s =
-    if d == s.caller then with_call (record s { command = Some k; number = n; began_at = at }) (fresh_call (way_of k)) else s
+abbrev pub began_seat : ℕ → ℕ → Command → ℕ → ℕ → Seat → Seat
+began_seat d n k m at s =
+    if d == s.caller then with_call (record s { command = Some k; number = n; began_at = at; began_on = m }) (fresh_call (way_of k)) else s
 
 abbrev pub put_seat : Option ℕ → Seat → Seat
 put_seat o s = if is_caller o s.caller then with_call s (put_call (call_of s)) else s
@@ -317,10 +317,10 @@ abbrev pub took_seat : ℕ → Said → Reply → Seat → Seat
 took_seat m a y s = if is_caller a.owner s.caller then with_call s (took_call m s.command a.plan a.slot y (call_of s)) else s
 
 abbrev pub answered_seat : ℕ → Seat → Seat
-answered_seat d s = if d == s.caller then record s { command = None } else s
+answered_seat d s = if d == s.caller then with_call (record s { command = None }) (answered_call (call_of s)) else s
 
 abbrev pub seats_step : View → Event → List Seat → List Seat
-seats_step w (Began d n k m) ss = map (began_seat d n k (suc w.facts.events)) ss
+seats_step w (Began d n k m) ss = map (began_seat d n k m (suc w.facts.events)) ss
 seats_step w (Put c p r) ss = map (put_seat (new_owner w r)) ss
 seats_step w (Took c p y) ss = map (took_seat w.facts.moment (said w y) y) ss
 seats_step w (Answered d n a) ss = map (answered_seat d) ss

@@ -5,7 +5,7 @@ use Rattle.n41_journal.specs.declared.events.Event.{Event}
 use Rattle.n41_model.specs.declared.words.Phase.TheVariants.{Binding, Session, ClientId, Completing}
 use Rattle.n41_model.specs.Requests.{standing, dials, puts, takes, moment, heard, rounds, quit, bare, bare_waits, bare_put_at, out, used, retried, sent, put_at, doubt}
 use Rattle.n41_model.specs.Sessions.{client, session, slots, bound, completed, phases, put_off, target, last_xid}
-use Rattle.n41_model.specs.Calls.{Call, command, number, began_at, call, owner}
+use Rattle.n41_model.specs.Calls.{Call, command, number, began_at, began_on, call, owner}
 use Rattle.n41_model.specs.Answers.{breach_at}
 use Rattle.n41_view.specs.declared.tables.Facts.{Facts}
 use Rattle.n41_view.specs.declared.tables.Held.{Held}
@@ -73,6 +73,7 @@ seat_with n js c k = record {
   command = command js c;
   number = number js c;
   began_at = began_at js c;
+  began_on = began_on js c;
   busy = k.busy;
   since = k.since;
   attempts = k.attempts;

@@ -89,6 +89,8 @@ pub struct Seat {
     pub number: u64,
     /// The place of the event with which that began.
     pub began_at: u64,
+    /// The moment at which it began.
+    pub began_on: u64,
     /// A request of the command is out.
     pub busy: bool,
     /// The moment of a DELAY or GRACE, while no new attempt was made.
@@ -97,6 +99,6 @@ pub struct Seat {
     pub attempts: u64,
     /// The answer that its last reply gives.
     pub earned: Option<Answer>,
-    /// How far its walk has come.
+    /// How far it has come.
     pub way: Way,
 }

@@ -13,4 +13,4 @@ whole xs ys zs n m l e = ap (λ vs. xs ++ vs) (e ∙ ap (λ k. take (name_limit 
 pub returns-in-Ok : goal.returns-in-Ok
 returns-in-Ok c =
     subst (λ v. c.append.new.self.items ≡ gathered v c.args.more.items) c.self.view_is (
-        c.in-Ok.ensures.items ∙ whole c.self.inside.items.items c.args.more.items c.truncate.new.self.items c.len.result (omega arith) (omega arith) c.truncate.ensures.items)
+    c.in-Ok.ensures.items ∙ whole c.self.inside.items.items c.args.more.items c.truncate.new.self.items c.len.result (omega arith) (omega arith) c.truncate.ensures.items)
