@@ -303,7 +303,7 @@ walked_by c ns (Some fh) w = walked c (length ns) fh w
 
 abbrev pub step_of : Option Command → Plan → Reply → Way → Way
 step_of (Some c) (plan.Walk from ns) y w = walked_by c ns (reached_in y.body) w
-step_of (Some c) (plan.List at n v size) y w = record w { listed = listed_after w.listed (listing_in y.body) }
+step_of c (plan.List at n v size) y w = record w { listed = listed_after w.listed (listing_in y.body) }
 step_of c p y w = w
 
 -- a walk or a listing that was answered OK leads on
