@@ -1,0 +1,2 @@
+//! The law of runs: a change takes effect at most once, and exactly once where it is answered as done.
+#![tactic(auto)]
