@@ -8,8 +8,7 @@ use Rattle.n41_results.specs.Shapes.{shape_of}
 use Rattle.n41_journal.specs.declared.events.Event.{Event}
 use Rattle.n41_model.specs.Requests.{request, bares, bare, outs, out, is_on, is_use_of, is_bare_use, has_xid}
 use Rattle.n41_model.proofs.Slots.{Seats}
-use Rattle.n41_once.specs.Ends.{has}
-use Rattle.n41_once.proofs.Lists.{first_on, first_bare}
+use Rattle.n41_once.proofs.Lists.{has, first_on, first_bare}
 use Rattle.n41_once.proofs.Known.{Known}
 
 -- a request has one of the two, a slot or none

@@ -13,9 +13,8 @@ use Rattle.n41_model.specs.Requests.{request, bares, bare, outs, out, made, is_o
 use Rattle.n41_model.specs.Sessions.{slots}
 use Rattle.n41_model.specs.Kept.{Kept, May}
 use Rattle.n41_model.proofs.Slots.{Seats, seats}
-use Rattle.n41_once.proofs.Lists.{one_on, one_bare, knows_is, without_is, joined_is, first_on, first_bare}
+use Rattle.n41_once.proofs.Lists.{has, one_on, one_bare, knows_is, without_is, joined_is, first_on, first_bare}
 use Rattle.n41_once.proofs.Fresh.{Placed, put_placed, unknown_on, unknown_bare}
-use Rattle.n41_once.specs.Ends.{has}
 
 pub record Known (js : List Event) : Type 0 where
   pub below : (n : ℕ) (r : Request) → out js n ≡ Some r → n < slots js

@@ -2,4 +2,8 @@ pub mod Lists
 pub mod Fresh
 pub mod Known
 pub mod Found
-pub mod Kinds
+pub mod Suits
+pub mod Puts
+pub mod Moves
+pub mod Bares
+pub mod Single

@@ -1,11 +1,15 @@
 -- Lists of at most one request are what their first request tells.
-use Rattle.std.proofs.Common.{◌≡◌, ℕ, Bool, true, false, List, [], ◌∷◌, Some, None, if◌then◌else◌, refl, sym, ◌∙◌, arith}
+use Rattle.std.proofs.Common.{◌≡◌, ℕ, Bool, true, false, List, [], ◌∷◌, Option, Some, None, if◌then◌else◌, refl, sym, ◌∙◌, arith}
 use Rattle.std.specs.Prelude.{is_none}
 use Rattle.n41_types.specs.declared.plans.Request.{Request}
 use Rattle.n41_model.specs.Requests.{has_xid, knows, without, joined, first, is_on, is_bare}
 use Rattle.n41_model.specs.Sessions.{is_empty}
 use Rattle.n41_model.proofs.Slots.{Seat as OneOn, Lone as OneBare}
-use Rattle.n41_once.specs.Ends.{has}
+
+-- the request has this xid
+abbrev pub has : ℕ → Option Request → Bool
+has x None = false
+has x (Some r) = has_xid x r
 
 -- at most one request
 abbrev pub One : List Request → Type 0
@@ -48,11 +52,6 @@ joined_is rs r s = at (knows rs r.xid) refl where
 pub empty_is_none : (rs : List Request) → is_empty rs ≡ is_none (first rs)
 empty_is_none [] = refl
 empty_is_none (r ∷ rs) = refl
-
-pub alone_is : (rs : List Request) → One rs → rs ≡ alone (first rs)
-alone_is [] s = refl
-alone_is (r ∷ []) s = refl
-alone_is (r ∷ q ∷ rs) s = absurd s
 
 pub first_on : (n : ℕ) (rs : List Request) (r : Request) → OneOn n rs → first rs ≡ Some r → is_on r n ≡ true
 first_on n [] r s e = absurd (cc)

@@ -46,6 +46,12 @@ is_dir_change (plan.Remove d n) = true
 is_dir_change (plan.Rename d n e m) = true
 is_dir_change p = false
 
+-- a plan of the client's own that has a slot
+abbrev pub is_own : Plan → Bool
+is_own plan.Complete = true
+is_own plan.LeaseTime = true
+is_own p = false
+
 abbrev pub is_bare_class : Class → Bool
 is_bare_class Bare = true
 is_bare_class k = false
@@ -56,35 +62,36 @@ pub record Alike (p q : Plan) : Type 0 where
   pub change : change_of p ≡ change_of q
   pub walk : is_walk p ≡ is_walk q
   pub dir : is_dir_change p ≡ is_dir_change q
+  pub own : is_own p ≡ is_own q
 
 pub alike : (p q : Plan) → plans.ghosts.eq p q ≡ true → Alike p q
-alike (plan.ExchangeId a b) (plan.ExchangeId x y) e = record { class = refl; change = refl; walk = refl; dir = refl }
-alike (plan.CreateSession a b) (plan.CreateSession x y) e = record { class = refl; change = refl; walk = refl; dir = refl }
-alike (plan.Bind a) (plan.Bind x) e = record { class = refl; change = refl; walk = refl; dir = refl }
-alike (plan.DestroySession a) (plan.DestroySession x) e = record { class = refl; change = refl; walk = refl; dir = refl }
-alike (plan.DestroyClient a) (plan.DestroyClient x) e = record { class = refl; change = refl; walk = refl; dir = refl }
-alike (plan.Walk a b) (plan.Walk x y) e = record { class = refl; change = refl; walk = refl; dir = refl }
-alike (plan.Stat a) (plan.Stat x) e = record { class = refl; change = refl; walk = refl; dir = refl }
-alike plan.LeaseTime plan.LeaseTime e = record { class = refl; change = refl; walk = refl; dir = refl }
-alike (plan.Read a b c d) (plan.Read x y z u) e = record { class = refl; change = refl; walk = refl; dir = refl }
-alike (plan.List a b c d) (plan.List x y z u) e = record { class = refl; change = refl; walk = refl; dir = refl }
-alike (plan.TestLock a b c d) (plan.TestLock x y z u) e = record { class = refl; change = refl; walk = refl; dir = refl }
-alike (plan.Test a) (plan.Test x) e = record { class = refl; change = refl; walk = refl; dir = refl }
-alike plan.Renew plan.Renew e = record { class = refl; change = refl; walk = refl; dir = refl }
-alike (plan.OpenAt a b c d) (plan.OpenAt x y z u) e = record { class = refl; change = refl; walk = refl; dir = refl }
-alike (plan.Downgrade a b c) (plan.Downgrade x y z) e = record { class = refl; change = refl; walk = refl; dir = refl }
-alike (plan.CloseState a b) (plan.CloseState x y) e = record { class = refl; change = refl; walk = refl; dir = refl }
-alike (plan.LockBytes a b c d f) (plan.LockBytes x y z u v) e = record { class = refl; change = refl; walk = refl; dir = refl }
-alike (plan.UnlockBytes a b c) (plan.UnlockBytes x y z) e = record { class = refl; change = refl; walk = refl; dir = refl }
-alike (plan.ReturnDeleg a b) (plan.ReturnDeleg x y) e = record { class = refl; change = refl; walk = refl; dir = refl }
-alike (plan.Free a) (plan.Free x) e = record { class = refl; change = refl; walk = refl; dir = refl }
-alike plan.Complete plan.Complete e = record { class = refl; change = refl; walk = refl; dir = refl }
-alike (plan.CreateFile a b c d) (plan.CreateFile x y z u) e = record { class = refl; change = refl; walk = refl; dir = refl }
-alike (plan.WriteBytes a b c d) (plan.WriteBytes x y z u) e = record { class = refl; change = refl; walk = refl; dir = refl }
-alike (plan.Resize a b c) (plan.Resize x y z) e = record { class = refl; change = refl; walk = refl; dir = refl }
-alike (plan.MakeDir a b) (plan.MakeDir x y) e = record { class = refl; change = refl; walk = refl; dir = refl }
-alike (plan.Remove a b) (plan.Remove x y) e = record { class = refl; change = refl; walk = refl; dir = refl }
-alike (plan.Rename a b c d) (plan.Rename x y z u) e = record { class = refl; change = refl; walk = refl; dir = refl }
+alike (plan.ExchangeId a b) (plan.ExchangeId x y) e = record { class = refl; change = refl; walk = refl; dir = refl; own = refl }
+alike (plan.CreateSession a b) (plan.CreateSession x y) e = record { class = refl; change = refl; walk = refl; dir = refl; own = refl }
+alike (plan.Bind a) (plan.Bind x) e = record { class = refl; change = refl; walk = refl; dir = refl; own = refl }
+alike (plan.DestroySession a) (plan.DestroySession x) e = record { class = refl; change = refl; walk = refl; dir = refl; own = refl }
+alike (plan.DestroyClient a) (plan.DestroyClient x) e = record { class = refl; change = refl; walk = refl; dir = refl; own = refl }
+alike (plan.Walk a b) (plan.Walk x y) e = record { class = refl; change = refl; walk = refl; dir = refl; own = refl }
+alike (plan.Stat a) (plan.Stat x) e = record { class = refl; change = refl; walk = refl; dir = refl; own = refl }
+alike plan.LeaseTime plan.LeaseTime e = record { class = refl; change = refl; walk = refl; dir = refl; own = refl }
+alike (plan.Read a b c d) (plan.Read x y z u) e = record { class = refl; change = refl; walk = refl; dir = refl; own = refl }
+alike (plan.List a b c d) (plan.List x y z u) e = record { class = refl; change = refl; walk = refl; dir = refl; own = refl }
+alike (plan.TestLock a b c d) (plan.TestLock x y z u) e = record { class = refl; change = refl; walk = refl; dir = refl; own = refl }
+alike (plan.Test a) (plan.Test x) e = record { class = refl; change = refl; walk = refl; dir = refl; own = refl }
+alike plan.Renew plan.Renew e = record { class = refl; change = refl; walk = refl; dir = refl; own = refl }
+alike (plan.OpenAt a b c d) (plan.OpenAt x y z u) e = record { class = refl; change = refl; walk = refl; dir = refl; own = refl }
+alike (plan.Downgrade a b c) (plan.Downgrade x y z) e = record { class = refl; change = refl; walk = refl; dir = refl; own = refl }
+alike (plan.CloseState a b) (plan.CloseState x y) e = record { class = refl; change = refl; walk = refl; dir = refl; own = refl }
+alike (plan.LockBytes a b c d f) (plan.LockBytes x y z u v) e = record { class = refl; change = refl; walk = refl; dir = refl; own = refl }
+alike (plan.UnlockBytes a b c) (plan.UnlockBytes x y z) e = record { class = refl; change = refl; walk = refl; dir = refl; own = refl }
+alike (plan.ReturnDeleg a b) (plan.ReturnDeleg x y) e = record { class = refl; change = refl; walk = refl; dir = refl; own = refl }
+alike (plan.Free a) (plan.Free x) e = record { class = refl; change = refl; walk = refl; dir = refl; own = refl }
+alike plan.Complete plan.Complete e = record { class = refl; change = refl; walk = refl; dir = refl; own = refl }
+alike (plan.CreateFile a b c d) (plan.CreateFile x y z u) e = record { class = refl; change = refl; walk = refl; dir = refl; own = refl }
+alike (plan.WriteBytes a b c d) (plan.WriteBytes x y z u) e = record { class = refl; change = refl; walk = refl; dir = refl; own = refl }
+alike (plan.Resize a b c) (plan.Resize x y z) e = record { class = refl; change = refl; walk = refl; dir = refl; own = refl }
+alike (plan.MakeDir a b) (plan.MakeDir x y) e = record { class = refl; change = refl; walk = refl; dir = refl; own = refl }
+alike (plan.Remove a b) (plan.Remove x y) e = record { class = refl; change = refl; walk = refl; dir = refl; own = refl }
+alike (plan.Rename a b c d) (plan.Rename x y z u) e = record { class = refl; change = refl; walk = refl; dir = refl; own = refl }
 alike p q e = absurd (true≢false (sym e))
 
 pub plan_itself : (p : Plan) → plans.ghosts.eq p p ≡ true
@@ -95,6 +102,7 @@ plan_itself p = plan-law.refl p
 -- a plan that this command may ask for
 pub record Suits (k : Command) (p : Plan) : Type 0 where
   pub slotted : is_bare_class (class_of p) ≡ false
+  pub callers : is_own p ≡ false
   pub change : change_of p ≢ None → is_dir_change p ≡ true
   pub reading : is_dir_change p ≡ false → class_of p ≡ Reading
   pub goal : is_changing k ≡ true → is_walk p ≡ false → is_dir_change p ≡ true
@@ -102,6 +110,7 @@ pub record Suits (k : Command) (p : Plan) : Type 0 where
 pub alike_suits : (k : Command) (p q : Plan) → Alike p q → Suits k p → Suits k q
 alike_suits k p q a s = record {
   slotted = ap (λ (c : Class). is_bare_class c) (sym a.class) ∙ s.slotted;
+  callers = sym a.own ∙ s.callers;
   change = λ h. sym a.dir ∙ s.change (λ e. h (sym a.change ∙ e));
   reading = λ e. sym a.class ∙ s.reading (a.dir ∙ e);
   goal = λ c e. sym a.dir ∙ s.goal c (a.walk ∙ e);
@@ -113,28 +122,28 @@ SuitsAll k (Some p) = Suits k p
 
 walk_suits : (k : Command) (most : ℕ) (at : Place) (ns : List (List ℕ)) (o : Option Plan) → SuitsAll k o → SuitsAll k (walk_or most at ns o)
 walk_suits k most at [] o s = s
-walk_suits k most at (n ∷ ns) o s = record { slotted = refl; change = λ h. absurd (h refl); reading = λ e. refl; goal = λ c e. absurd (true≢false e) }
+walk_suits k most at (n ∷ ns) o s = record { slotted = refl; callers = refl; change = λ h. absurd (h refl); reading = λ e. refl; goal = λ c e. absurd (true≢false e) }
 
 make_suits : (p : List (List ℕ)) (at : Place) (o : Option (List ℕ)) → SuitsAll (asks.MakeDir p) (make_dir at o)
 make_suits p at None = tt
-make_suits p at (Some n) = record { slotted = refl; change = λ h. refl; reading = λ e. absurd (true≢false e); goal = λ c e. refl }
+make_suits p at (Some n) = record { slotted = refl; callers = refl; change = λ h. refl; reading = λ e. absurd (true≢false e); goal = λ c e. refl }
 
 remove_suits : (p : List (List ℕ)) (at : Place) (o : Option (List ℕ)) → SuitsAll (asks.Remove p) (remove at o)
 remove_suits p at None = tt
-remove_suits p at (Some n) = record { slotted = refl; change = λ h. refl; reading = λ e. absurd (true≢false e); goal = λ c e. refl }
+remove_suits p at (Some n) = record { slotted = refl; callers = refl; change = λ h. refl; reading = λ e. absurd (true≢false e); goal = λ c e. refl }
 
 rename_suits : (p q : List (List ℕ)) (from : Option Place) (old : Option (List ℕ)) (at : Place) (new : Option (List ℕ)) → SuitsAll (asks.Rename p q) (rename from old at new)
 rename_suits p q None old at new = tt
 rename_suits p q (Some d) None at new = tt
 rename_suits p q (Some d) (Some m) at None = tt
-rename_suits p q (Some d) (Some m) at (Some n) = record { slotted = refl; change = λ h. refl; reading = λ e. absurd (true≢false e); goal = λ c e. refl }
+rename_suits p q (Some d) (Some m) at (Some n) = record { slotted = refl; callers = refl; change = λ h. refl; reading = λ e. absurd (true≢false e); goal = λ c e. refl }
 
 list_suits : (p : List (List ℕ)) (size : ℕ) (at : Place) (l : Option Listed) → SuitsAll (asks.List p) (list size at l)
 list_suits p size at None = tt
-list_suits p size at (Some l) = record { slotted = refl; change = λ h. absurd (h refl); reading = λ e. refl; goal = λ c e. absurd (true≢false (sym c)) }
+list_suits p size at (Some l) = record { slotted = refl; callers = refl; change = λ h. absurd (h refl); reading = λ e. refl; goal = λ c e. absurd (true≢false (sym c)) }
 
 goal_suits : (size : ℕ) (k : Command) (w : Way) → SuitsAll k (goal size k w)
-goal_suits size (asks.Stat p) w = record { slotted = refl; change = λ h. absurd (h refl); reading = λ e. refl; goal = λ c e. absurd (true≢false (sym c)) }
+goal_suits size (asks.Stat p) w = record { slotted = refl; callers = refl; change = λ h. absurd (h refl); reading = λ e. refl; goal = λ c e. absurd (true≢false (sym c)) }
 goal_suits size (asks.List p) w = list_suits p size w.at w.listed
 goal_suits size (asks.MakeDir p) w = make_suits p w.at (last_of p)
 goal_suits size (asks.Remove p) w = remove_suits p w.at (last_of p)
