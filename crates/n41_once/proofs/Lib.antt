@@ -7,3 +7,4 @@ pub mod Puts
 pub mod Moves
 pub mod Bares
 pub mod Single
+pub mod Said
