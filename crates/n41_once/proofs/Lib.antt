@@ -8,3 +8,4 @@ pub mod Moves
 pub mod Bares
 pub mod Single
 pub mod Said
+pub mod Net
