@@ -9,3 +9,4 @@ pub mod Bares
 pub mod Single
 pub mod Said
 pub mod Net
+pub mod Lives

@@ -130,7 +130,7 @@ ends_serves sizes w k r a = record { pending = a.0; here = refl; same = refl; ta
 
 -- ---- a Put
 
-put_fresh : (w : List Step) (c p : ℕ) (r : Request) → Net w → fate w (messages (client w)) ≡ None
+pub put_fresh : (w : List Step) (c p : ℕ) (r : Request) → Net w → fate w (messages (client w)) ≡ None
 put_fresh w c p r n = at (fate w (messages (client w))) refl where
   at : (o : Option Reply) → fate w (messages (client w)) ≡ o → fate w (messages (client w)) ≡ None
   at None e = e
