@@ -10,3 +10,4 @@ pub mod Single
 pub mod Said
 pub mod Net
 pub mod Lives
+pub mod Verdicts
