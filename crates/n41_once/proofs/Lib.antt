@@ -11,3 +11,4 @@ pub mod Said
 pub mod Net
 pub mod Lives
 pub mod Verdicts
+pub mod Served
