@@ -12,3 +12,4 @@ pub mod Net
 pub mod Lives
 pub mod Verdicts
 pub mod Served
+pub mod Answering
