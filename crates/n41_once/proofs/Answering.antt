@@ -195,3 +195,78 @@ refusal_says u sizes w j r p s kn z i lv sv o e = by (or_case (is_delay s) (if a
   by : (is_delay s ≡ true) ⊎ ((if alive w p.sid then ((is_bad_slot s && nat_le (slots_given w p.sid) p.slot) || (is_not_bound s && not (is_bound w p.sid (carrier (client w) j))) || refuses (sizes r) s || (is_misordered s && is_out_of_turn p.turn (last w p.sid p.slot))) else is_gone s) ≡ true) → SaysOn sizes w r p (refusal r s)
   by (inl f) = says_end v.Delayed (verdict_is ∙ delay_verdict r.plan t s f) (λ x. no x) (λ x. no x) (λ x. no x) (λ x. no x)
   by (inr f) = alive_by (alive w p.sid) refl f
+
+pub refuses_served : (u : Setup) (sizes : Sizes) (w : List Step) (j : ℕ) (r : Request) (s : Status) → Known (client w) → Single u (client w) → Said (client w) → Lives u w → Served sizes w → Allowed sizes w (Refuses j r s) → Served sizes (Refuses j r s ∷ w)
+refuses_served u sizes w j r s kn z i lv sv a = answers_served u sizes w (Refuses j r s) j r (refusal r s) z sv (record {
+  serves = refuses_serves sizes w j r s a;
+  lasts = λ n m. refl;
+  kepts = λ n m. refl;
+  lives = λ n e f. f;
+  says = λ q p o h l. by q p o (same_request w j r q p i a.0.put o l);
+}) where
+  refuses_on : (p : SlotUse) (n : Option SlotUse) → n ≡ Some p → refuses_by sizes w j r n s ≡ true → slot_refuses sizes w j r p s ≡ true
+  refuses_on p None e f = absurd (cc)
+  refuses_on p (Some x) e f = let d : x ≡ p = cc in subst (λ (y : SlotUse). slot_refuses sizes w j r y s ≡ true) d f
+
+  by : (q : Request) (p : SlotUse) → IsOn (client w) q p → q ≡ r → SaysOn sizes w q p (refusal r s)
+  by q p o d =
+      let b : IsOn (client w) r p = subst (λ (x : Request). IsOn (client w) x p) d o in
+      let h = refusal_says u sizes w j r p s kn z i lv sv b (refuses_on p r.slot b.placed a.1) in
+      subst (λ (x : Request). SaysOn sizes w x p (refusal r s)) (sym d) h
+
+-- ---- requests without a slot
+
+pub names_served : (u : Setup) (sizes : Sizes) (w : List Step) (j : ℕ) (r : Request) (i : Identity) → Single u (client w) → Said (client w) → Served sizes w → Allowed sizes w (Names j r i) → Served sizes (Names j r i ∷ w)
+names_served u sizes w j r x z i s a = answers_served u sizes w (Names j r x) j r (named_reply r x) z s (record {
+  serves = names_serves sizes w j r x a;
+  lasts = λ n m. refl;
+  kepts = λ n m. refl;
+  lives = λ n e f. f;
+  says = λ q p o h l. bare_says sizes w j r q p (named_reply r x) i a.0.put a.1 o l;
+})
+
+pub binds_served : (u : Setup) (sizes : Sizes) (w : List Step) (j : ℕ) (r : Request) (b : Bound) → Single u (client w) → Said (client w) → Served sizes w → Allowed sizes w (Binds j r b) → Served sizes (Binds j r b ∷ w)
+binds_served u sizes w j r x z i s a = answers_served u sizes w (Binds j r x) j r (bound_reply r x) z s (record {
+  serves = binds_serves sizes w j r x a;
+  lasts = λ n m. refl;
+  kepts = λ n m. refl;
+  lives = λ n e f. f;
+  says = λ q p o h l. bare_says sizes w j r q p (bound_reply r x) i a.0.put a.1 o l;
+})
+
+fresh_id : (w : List Step) (p : Plan) (m : SessionMade) → MayMake w p m → was_made w m.sid ≡ false
+fresh_id w (plan.CreateSession c n) m h = h.fresh
+fresh_id w p m h = absurd h
+
+pub makes_served : (u : Setup) (sizes : Sizes) (w : List Step) (j : ℕ) (r : Request) (m : SessionMade) → Single u (client w) → Said (client w) → Lives u w → Served sizes w → Allowed sizes w (Makes j r m) → Served sizes (Makes j r m ∷ w)
+makes_served u sizes w j r m z i lv s a = answers_served u sizes w (Makes j r m) j r (made_reply r m) z s (record {
+  serves = makes_serves sizes w j r m a;
+  lasts = λ n x. refl;
+  kepts = λ n x. refl;
+  lives = λ n e f. other n e (is_session m.sid n) refl f;
+  says = λ q p o h l. bare_says sizes w j r q p (made_reply r m) i a.0.put a.1 o l;
+}) where
+  made_given : (n : SessionId) (o : Option SessionMade) → given (client w) ≡ o → sid_in (given (client w)) ≡ Some n → was_made w n ≡ true
+  made_given n None e f = absurd (let h : None ≡ Some n = sym (ap (λ (x : Option SessionMade). sid_in x) e) ∙ f in cc)
+  made_given n (Some k) e f =
+      let h : Some k.sid ≡ Some n = sym (ap (λ (x : Option SessionMade). sid_in x) e) ∙ f in
+      let d : k.sid ≡ n = cc in
+      subst (λ (x : SessionId). was_made w x ≡ true) d (lv.given_made k e).was
+
+  other : (n : SessionId) → sid_in (given (client w)) ≡ Some n → (t : Bool) → is_session m.sid n ≡ t → alive (Makes j r m ∷ w) n ≡ true → alive w n ≡ true
+  other n e true f g =
+      let d = session_same m.sid n f in
+      absurd (true≢false (sym (made_given n (given (client w)) refl e) ∙ subst (λ (x : SessionId). was_made w x ≡ false) d (fresh_id w r.plan m a.2)))
+  other n e false f g = (rw f at g)
+
+pub ends_served : (u : Setup) (sizes : Sizes) (w : List Step) (j : ℕ) (r : Request) → Single u (client w) → Said (client w) → Served sizes w → Allowed sizes w (Ends j r) → Served sizes (Ends j r ∷ w)
+ends_served u sizes w j r z i s a = answers_served u sizes w (Ends j r) j r (ended_reply r) z s (record {
+  serves = ends_serves sizes w j r a;
+  lasts = λ n m. refl;
+  kepts = λ n m. refl;
+  lives = λ n e f. left n (is_end_of r.plan n) refl f;
+  says = λ q p o h l. bare_says sizes w j r q p (ended_reply r) i a.0.put a.1 o l;
+}) where
+  left : (n : SessionId) (t : Bool) → is_end_of r.plan n ≡ t → alive (Ends j r ∷ w) n ≡ true → alive w n ≡ true
+  left n true e f = absurd (let g : false ≡ true = (rw e at f) in true≢false (sym g))
+  left n false e f = (rw e at f)

@@ -13,3 +13,4 @@ pub mod Lives
 pub mod Verdicts
 pub mod Served
 pub mod Answering
+pub mod Running
