@@ -14,3 +14,4 @@ pub mod Verdicts
 pub mod Served
 pub mod Answering
 pub mod Running
+pub mod Putting
