@@ -204,3 +204,203 @@ took_slot u sizes w k c m y r p t z s f a l = by (is_final y) refl where
     by_big true g = final_slot sizes w (Took c m y ∷ client w) p.slot (big_final e g)
     by_big false g = final_slot sizes w (Took c m y ∷ client w) p.slot (small_final e g)
   by false e = goes_on e
+
+-- ---- all slots together
+
+does_served : (sizes : Sizes) (w : List Step) (e : Event) → Served sizes w → given (e ∷ client w) ≡ given (client w) → ((k : ℕ) → message (e ∷ client w) k ≡ message (client w) k) → ((n : ℕ) → Slot sizes w (client w) (e ∷ client w) n) → Served sizes (Does e ∷ w)
+does_served sizes w e s g h f = record {
+  turn_used = λ k r p a b d. (f p.slot).turn_used k r p (sym (h k) ∙ a) b refl d;
+  same = λ k r q p a i. (f p.slot).same k r q p (sym (h k) ∙ a.put) a.placed refl a.fits a.turn i;
+  alone = λ k r q p a i t. (f p.slot).alone k r q p (sym (h k) ∙ a.put) a.placed refl a.fits a.turn i t;
+  last_used = λ i n d. (f n).last_used i (given_is i d);
+  last_given = λ i n d. rw g (s.last_given i n d);
+  free = λ i n d. (f n).free i (given_is i d);
+  next = λ r p o. (f p.slot).next r p o.placed refl o.is_out;
+  big = λ r p o. (f p.slot).big r p o.placed refl o.is_out;
+  kept_ran = λ r p o. (f p.slot).kept_ran r p o.placed refl o.is_out;
+  truth = λ r p o. (f p.slot).truth r p o.placed refl o.is_out;
+  tells = λ r p y o. (f p.slot).tells r p y o.placed refl o.is_out;
+  pending = λ k r q p a i t. (f p.slot).pending k r q p (sym (h k) ∙ a.put) a.placed refl a.fits a.turn i t;
+  fresh = λ r p o. (f p.slot).fresh r p o.placed refl o.is_out;
+} where
+  given_is : (i : SessionId) → sid_in (given (e ∷ client w)) ≡ Some i → sid_in (given (client w)) ≡ Some i
+  given_is i d = sym (ap (λ (o : Option SessionMade). sid_in o) g) ∙ d
+
+takes_served : (sizes : Sizes) (w : List Step) (k c m : ℕ) (y : Reply) → Served sizes w → given (Took c m y ∷ client w) ≡ given (client w) → ((n : ℕ) → Slot sizes w (client w) (Took c m y ∷ client w) n) → Served sizes (Takes k c m y ∷ w)
+takes_served sizes w k c m y s g f = record {
+  turn_used = λ j r p a b d. (f p.slot).turn_used j r p a b refl d;
+  same = λ j r q p a i. (f p.slot).same j r q p a.put a.placed refl a.fits a.turn i;
+  alone = λ j r q p a i t. (f p.slot).alone j r q p a.put a.placed refl a.fits a.turn i t;
+  last_used = λ i n d. (f n).last_used i (given_is i d);
+  last_given = λ i n d. rw g (s.last_given i n d);
+  free = λ i n d. (f n).free i (given_is i d);
+  next = λ r p o. (f p.slot).next r p o.placed refl o.is_out;
+  big = λ r p o. (f p.slot).big r p o.placed refl o.is_out;
+  kept_ran = λ r p o. (f p.slot).kept_ran r p o.placed refl o.is_out;
+  truth = λ r p o. (f p.slot).truth r p o.placed refl o.is_out;
+  tells = λ r p x o. (f p.slot).tells r p x o.placed refl o.is_out;
+  pending = λ j r q p a i t. (f p.slot).pending j r q p a.put a.placed refl a.fits a.turn i t;
+  fresh = λ r p o. (f p.slot).fresh r p o.placed refl o.is_out;
+} where
+  given_is : (i : SessionId) → sid_in (given (Took c m y ∷ client w)) ≡ Some i → sid_in (given (client w)) ≡ Some i
+  given_is i d = sym (ap (λ (o : Option SessionMade). sid_in o) g) ∙ d
+
+-- a session is made: nothing was on its slots
+first_served : (u : Setup) (sizes : Sizes) (w : List Step) (k c m : ℕ) (y : Reply) → Single u (client w) → Served sizes w → given (client w) ≡ None → ((n : ℕ) → out (Took c m y ∷ client w) n ≡ None) → ((n : ℕ) → used (Took c m y ∷ client w) n ≡ 0) → Served sizes (Takes k c m y ∷ w)
+first_served u sizes w k c m y z s g o e = record {
+  turn_used = λ j r p a b d. absurd (none p.sid (z.slotted j r p a b));
+  same = λ j r q p a i. absurd (none_out_at p.slot q i);
+  alone = λ j r q p a i t. absurd (none_out_at p.slot q i);
+  last_used = λ i n d. let l = last_is i n (last w i n == 0) refl in let f = e n in omega arith;
+  last_given = λ i n d. absurd (none i (s.last_given i n d));
+  free = λ i n d f h. let l = e n in omega arith;
+  next = λ r p i. absurd (none_out_at p.slot r i.is_out);
+  big = λ r p i. absurd (none_out_at p.slot r i.is_out);
+  kept_ran = λ r p i. absurd (none_out_at p.slot r i.is_out);
+  truth = λ r p i. absurd (none_out_at p.slot r i.is_out);
+  tells = λ r p x i. absurd (none_out_at p.slot r i.is_out);
+  pending = λ j r q p a i t. absurd (none_out_at p.slot q i);
+  fresh = λ r p i. absurd (none_out_at p.slot r i.is_out);
+} where
+  none : (i : SessionId) → sid_in (given (client w)) ≡ Some i → ⊥
+  none i f = absurd (let h : None ≡ Some i = sym (ap (λ (x : Option SessionMade). sid_in x) g) ∙ f in cc)
+
+  none_out_at : (n : ℕ) (q : Request) → out (Took c m y ∷ client w) n ≡ Some q → ⊥
+  none_out_at n q f = absurd (let h : None ≡ Some q = sym (o n) ∙ f in cc)
+
+  last_is : (i : SessionId) (n : ℕ) (b : Bool) → (last w i n == 0) ≡ b → last w i n ≡ 0
+  last_is i n true f = grind (arith, nat_tests, f)
+  last_is i n false f = absurd (none i (s.last_given i n (λ h. absurd (grind (arith, nat_tests, f, h)))))
+
+taken_served : (u : Setup) (sizes : Sizes) (w : List Step) (k c m : ℕ) (y : Reply) (r : Request) → Seats (client w) → Single u (client w) → Served sizes w → MayBeTaken w k c y → TakenIs (client w) k y r → Served sizes (Takes k c m y ∷ w)
+taken_served u sizes w k c m y r t z s a (inl (b, d, l)) = by (made (client w) y) refl where
+  same_slot : (n : ℕ) → made (client w) y ≡ None → SameSlot (client w) (Took c m y ∷ client w) n
+  same_slot n e = record {
+    outs = bare_took (client w) c m n y r t b ∙ ap (λ (o : Option SessionMade). if is_some o then None else out (client w) n) e;
+    useds = bare_took_used (client w) c m n y r b ∙ ap (λ (o : Option SessionMade). if is_some o then 0 else used (client w) n) e;
+    sents = bare_took_sent (client w) c m n y r b;
+    retrieds = refl;
+    doubts = refl;
+    lasts = refl;
+  }
+
+  by : (o : Option SessionMade) → made (client w) y ≡ o → Served sizes (Takes k c m y ∷ w)
+  by None e = takes_served sizes w k c m y s (ap (λ (o : Option SessionMade). or_made o (given (client w))) e) (λ n. slot_same sizes w (client w) (Took c m y ∷ client w) n (same_slot n e) (slot_of sizes w n s))
+  by (Some x) e = first_served u sizes w k c m y z s (made_first u (client w) y r x z b e)
+      (λ n. bare_took (client w) c m n y r t b ∙ ap (λ (o : Option SessionMade). if is_some o then None else out (client w) n) e)
+      (λ n. bare_took_used (client w) c m n y r b ∙ ap (λ (o : Option SessionMade). if is_some o then 0 else used (client w) n) e)
+taken_served u sizes w k c m y r t z s a (inr (p, b, d, l)) = takes_served sizes w k c m y s (ap (λ (o : Option SessionMade). or_made o (given (client w))) b.makes) (λ n. slot_by n (p.slot == n) refl) where
+  same_slot : (n : ℕ) → (p.slot == n) ≡ false → SameSlot (client w) (Took c m y ∷ client w) n
+  same_slot n e = record {
+    outs = took_out (client w) c m n y r p t b ∙ ap (λ (x : Bool). if x && is_final y then None else out (client w) n) e;
+    useds = took_used (client w) c m n y r p b ∙ ap (λ (x : Bool). if x && gives_back y then used (client w) n - 1 else used (client w) n) e;
+    sents = took_sent (client w) c m n y r p b ∙ ap (λ (x : Bool). if x then sent_after (moment (client w)) (sequence_status y.body) else sent (client w) n) e;
+    retrieds = refl;
+    doubts = refl;
+    lasts = refl;
+  }
+
+  slot_by : (n : ℕ) (x : Bool) → (p.slot == n) ≡ x → Slot sizes w (client w) (Took c m y ∷ client w) n
+  slot_by n true e = subst (λ (j : ℕ). Slot sizes w (client w) (Took c m y ∷ client w) j) (slot_is p n e) (took_slot u sizes w k c m y r p t z s a.made b l)
+  slot_by n false e = slot_same sizes w (client w) (Took c m y ∷ client w) n (same_slot n e) (slot_of sizes w n s)
+
+-- ---- breaks
+
+or_waits : (b : Bool) (s : Sent) → (b ≡ true) ⊎ (s ≡ Waits) → (b || is_waiting s) ≡ true
+or_waits true s e = refl
+or_waits false s (inl e) = absurd (true≢false (sym e))
+or_waits false s (inr e) = ap (λ (x : Sent). is_waiting x) e
+
+broke_slot : (sizes : Sizes) (w : List Step) (c n : ℕ) (x : Cause) → Served sizes w → Slot sizes w (client w) (Broke c x ∷ client w) n
+broke_slot sizes w c n x s = record {
+  turn_used = b.turn_used;
+  same = b.same;
+  alone = b.alone;
+  last_used = b.last_used;
+  free = b.free;
+  next = b.next;
+  big = b.big;
+  kept_ran = b.kept_ran;
+  truth = λ r p d e f g. inl (doubted (b.truth r p d e f g));
+  tells = λ r p y d e f g h. absurd (cc);
+  pending = λ k r q p d e f g h i j. inl (doubted (b.pending k r q p d e f g h i j));
+  fresh = b.fresh;
+} where
+  b : Slot sizes w (client w) (client w) n
+  b = slot_of sizes w n s
+
+  doubted : {A : Type 0} → (doubt (client w) n ≡ true) ⊎ ((sent (client w) n ≡ Waits) × A) → (doubt (client w) n || is_waiting (sent (client w) n)) ≡ true
+  doubted (inl e) = or_waits (doubt (client w) n) (sent (client w) n) (inl e)
+  doubted (inr e) = or_waits (doubt (client w) n) (sent (client w) n) (inr e.0)
+
+dialed_slot : (sizes : Sizes) (w : List Step) (c n : ℕ) → Said (client w) → Served sizes w → standing (client w) ≡ None → Slot sizes w (client w) (Dialed c ∷ client w) n
+dialed_slot sizes w c n z s h = record {
+  turn_used = b.turn_used;
+  same = b.same;
+  alone = b.alone;
+  last_used = b.last_used;
+  free = b.free;
+  next = b.next;
+  big = b.big;
+  kept_ran = b.kept_ran;
+  truth = λ r p d e f g. inl (doubted (b.truth r p d e f g));
+  tells = λ r p y d e f g i. absurd (cc);
+  pending = λ k r q p d e f g i j l. inl (doubted (b.pending k r q p d e f g i j l));
+  fresh = b.fresh;
+} where
+  b : Slot sizes w (client w) (client w) n
+  b = slot_of sizes w n s
+
+  doubted : {A : Type 0} → (doubt (client w) n ≡ true) ⊎ ((sent (client w) n ≡ Waits) × A) → doubt (client w) n ≡ true
+  doubted (inl e) = e
+  doubted (inr e) = absurd (z.waits_stands n e.0 h)
+
+quiet_slot : (sizes : Sizes) (w : List Step) (e : Event) (n : ℕ) → Served sizes w → SameSlot (client w) (e ∷ client w) n → Slot sizes w (client w) (e ∷ client w) n
+quiet_slot sizes w e n s h = slot_same sizes w (client w) (e ∷ client w) n h (slot_of sizes w n s)
+
+-- ---- all steps
+
+does_by : (u : Setup) (sizes : Sizes) (w : List Step) (e : Event) → Seats (client w) → Single u (client w) → Said (client w) → Net w → Lives u w → Served sizes w → May u (client w) e → IsNoReply e → Served sizes (Does e ∷ w)
+does_by u sizes w (Began c n k m) t z i x v s h l = does_served sizes w (Began c n k m) s refl (λ _. refl) (λ j. quiet_slot sizes w (Began c n k m) j s (record { outs = refl; useds = refl; sents = refl; retrieds = refl; doubts = refl; lasts = refl }))
+does_by u sizes w (Put c m r) t z i x v s h l = puts_served u sizes w c m r t z i x v s (put_of u (client w) h.0 r h.1.is_due).form
+does_by u sizes w (Took c m y) t z i x v s h l = absurd l
+does_by u sizes w (CbTook c m y) t z i x v s h l = absurd l
+does_by u sizes w (CbPut c m y) t z i x v s h l = absurd h
+does_by u sizes w (Dialed c) t z i x v s h l = does_served sizes w (Dialed c) s refl (λ _. refl) (λ j. dialed_slot sizes w c j i s h.0)
+does_by u sizes w DialFailed t z i x v s h l = does_served sizes w DialFailed s refl (λ _. refl) (λ j. quiet_slot sizes w DialFailed j s (record { outs = refl; useds = refl; sents = refl; retrieds = refl; doubts = refl; lasts = refl }))
+does_by u sizes w (Broke c y) t z i x v s h l = does_served sizes w (Broke c y) s refl (λ _. refl) (λ j. broke_slot sizes w c j y s)
+does_by u sizes w (Ticked m) t z i x v s h l = does_served sizes w (Ticked m) s refl (λ _. refl) (λ j. quiet_slot sizes w (Ticked m) j s (record { outs = refl; useds = refl; sents = refl; retrieds = refl; doubts = refl; lasts = refl }))
+does_by u sizes w (Answered c n a) t z i x v s h l = does_served sizes w (Answered c n a) s refl (λ _. refl) (λ j. quiet_slot sizes w (Answered c n a) j s (record { outs = refl; useds = refl; sents = refl; retrieds = refl; doubts = refl; lasts = refl }))
+does_by u sizes w Quit t z i x v s h l = does_served sizes w Quit s refl (λ _. refl) (λ j. quiet_slot sizes w Quit j s (record { outs = refl; useds = refl; sents = refl; retrieds = refl; doubts = refl; lasts = refl }))
+
+none_served : (sizes : Sizes) → Served sizes []
+none_served sizes = record {
+  turn_used = λ k r p a b c. absurd (cc);
+  same = λ k r q p a b. absurd (let c = a.put in cc);
+  alone = λ k r q p a b c. absurd (let d = a.put in cc);
+  last_used = λ i n e. absurd (cc);
+  last_given = λ i n e. absurd (e refl);
+  free = λ i n e f g. absurd (cc);
+  next = λ r p o. absurd (let e = o.is_out in cc);
+  big = λ r p o e. absurd (let f = o.is_out in cc);
+  kept_ran = λ r p o e. absurd (let f = o.is_out in cc);
+  truth = λ r p o e. absurd (let f = o.is_out in cc);
+  tells = λ r p y o e f. absurd (let g = o.is_out in cc);
+  pending = λ k r q p a b c. absurd (let d = a.put in cc);
+  fresh = λ r p o e f. absurd (let g = o.is_out in cc);
+}
+
+pub served : (u : Setup) (sizes : Sizes) (w : List Step) → LegalBy sizes w → Kept u (client w) → Served sizes w
+served u sizes [] l k = none_served sizes
+served u sizes (Does e ∷ w) l k = does_by u sizes w e (seats u (client w) k.0) (single u (client w) k.0) (said u (client w) k.0) (net u sizes w l.0 k.0) (lives u sizes w l.0 k.0) (served u sizes w l.0 k.0) k.1 l.1
+served u sizes (Takes j c m y ∷ w) l k =
+    let t = seats u (client w) k.0 in
+    let v = known u (client w) k.0 in
+    taken_served u sizes w j c m y k.1.0 t (single u (client w) k.0) (served u sizes w l.0 k.0) l.1 (taken_is w j c y k.1.0 v (net u sizes w l.0 k.0) l.1 (takes_is (client w) c m y k.1.0 t v k.1.1))
+served u sizes (Runs j r q xs ∷ w) l k = runs_served u sizes w j r q xs (seats u (client w) k) (single u (client w) k) (said u (client w) k) (served u sizes w l.0 k) l.1
+served u sizes (Repeats j r y ∷ w) l k = repeats_served u sizes w j r y (single u (client w) k) (said u (client w) k) (served u sizes w l.0 k) l.1
+served u sizes (Refuses j r s ∷ w) l k = refuses_served u sizes w j r s (known u (client w) k) (single u (client w) k) (said u (client w) k) (lives u sizes w l.0 k) (served u sizes w l.0 k) l.1
+served u sizes (Names j r i ∷ w) l k = names_served u sizes w j r i (single u (client w) k) (said u (client w) k) (served u sizes w l.0 k) l.1
+served u sizes (Makes j r m ∷ w) l k = makes_served u sizes w j r m (single u (client w) k) (said u (client w) k) (lives u sizes w l.0 k) (served u sizes w l.0 k) l.1
+served u sizes (Binds j r b ∷ w) l k = binds_served u sizes w j r b (single u (client w) k) (said u (client w) k) (served u sizes w l.0 k) l.1
+served u sizes (Ends j r ∷ w) l k = ends_served u sizes w j r (single u (client w) k) (said u (client w) k) (served u sizes w l.0 k) l.1
