@@ -16,3 +16,4 @@ pub mod Answering
 pub mod Running
 pub mod Putting
 pub mod Taking
+pub mod Chosen

@@ -1,5 +1,6 @@
 -- What plans tell, and which of them commands ask for.
 use Rattle.std.proofs.Common.{◌≡◌, ◌≢◌, ◌⊎◌, inl, inr, ℕ, zero, suc, ◌<◌, ◌≤◌, Bool, true, false, ◌&&◌, List, [], ◌∷◌, Option, Some, None, if◌then◌else◌, refl, sym, ◌∙◌, ap, subst, arith, true≢false}
+use Rattle.std.specs.Prelude.{drop}
 use Rattle.std.specs.Cmp.Lexicographic.{bytes_decides}
 use Rattle.std.proofs.lemmas.Bool.Decides.{nat_tests}
 use Rattle.n41_types.specs.declared.commands.Command.{Command}
@@ -99,12 +100,17 @@ plan_itself p = plan-law.refl p
 
 -- ---- the plans of commands
 
+abbrev pub is_pause : Command → Bool
+is_pause (asks.Pause s) = true
+is_pause k = false
+
 -- a plan that this command may ask for
 pub record Suits (k : Command) (p : Plan) : Type 0 where
   pub slotted : is_bare_class (class_of p) ≡ false
   pub callers : is_own p ≡ false
   pub change : change_of p ≢ None → is_dir_change p ≡ true
   pub reading : is_dir_change p ≡ false → class_of p ≡ Reading
+  pub asks_some : is_pause k ≡ false
   pub goal : is_changing k ≡ true → is_walk p ≡ false → is_dir_change p ≡ true
 
 pub alike_suits : (k : Command) (p q : Plan) → Alike p q → Suits k p → Suits k q
@@ -113,6 +119,7 @@ alike_suits k p q a s = record {
   callers = sym a.own ∙ s.callers;
   change = λ h. sym a.dir ∙ s.change (λ e. h (sym a.change ∙ e));
   reading = λ e. sym a.class ∙ s.reading (a.dir ∙ e);
+  asks_some = s.asks_some;
   goal = λ c e. sym a.dir ∙ s.goal c (a.walk ∙ e);
 }
 
@@ -120,38 +127,49 @@ abbrev SuitsAll : Command → Option Plan → Type 0
 SuitsAll k None = Unit {0}
 SuitsAll k (Some p) = Suits k p
 
-walk_suits : (k : Command) (most : ℕ) (at : Place) (ns : List (List ℕ)) (o : Option Plan) → SuitsAll k o → SuitsAll k (walk_or most at ns o)
-walk_suits k most at [] o s = s
-walk_suits k most at (n ∷ ns) o s = record { slotted = refl; callers = refl; change = λ h. absurd (h refl); reading = λ e. refl; goal = λ c e. absurd (true≢false e) }
+walk_suits : (k : Command) (most : ℕ) (at : Place) (ns : List (List ℕ)) (o : Option Plan) → (is_pause k ≡ true → ns ≡ []) → SuitsAll k o → SuitsAll k (walk_or most at ns o)
+walk_suits k most at [] o f s = s
+walk_suits k most at (n ∷ ns) o f s = record { slotted = refl; callers = refl; change = λ h. absurd (h refl); reading = λ e. refl; asks_some = no_pause (is_pause k) refl; goal = λ c e. absurd (true≢false e) } where
+  no_pause : (b : Bool) → is_pause k ≡ b → is_pause k ≡ false
+  no_pause true e = absurd (let g : (n ∷ ns) ≡ [] = f e in cc)
+  no_pause false e = e
 
 make_suits : (p : List (List ℕ)) (at : Place) (o : Option (List ℕ)) → SuitsAll (asks.MakeDir p) (make_dir at o)
 make_suits p at None = tt
-make_suits p at (Some n) = record { slotted = refl; callers = refl; change = λ h. refl; reading = λ e. absurd (true≢false e); goal = λ c e. refl }
+make_suits p at (Some n) = record { slotted = refl; callers = refl; change = λ h. refl; reading = λ e. absurd (true≢false e); asks_some = refl; goal = λ c e. refl }
 
 remove_suits : (p : List (List ℕ)) (at : Place) (o : Option (List ℕ)) → SuitsAll (asks.Remove p) (remove at o)
 remove_suits p at None = tt
-remove_suits p at (Some n) = record { slotted = refl; callers = refl; change = λ h. refl; reading = λ e. absurd (true≢false e); goal = λ c e. refl }
+remove_suits p at (Some n) = record { slotted = refl; callers = refl; change = λ h. refl; reading = λ e. absurd (true≢false e); asks_some = refl; goal = λ c e. refl }
 
 rename_suits : (p q : List (List ℕ)) (from : Option Place) (old : Option (List ℕ)) (at : Place) (new : Option (List ℕ)) → SuitsAll (asks.Rename p q) (rename from old at new)
 rename_suits p q None old at new = tt
 rename_suits p q (Some d) None at new = tt
 rename_suits p q (Some d) (Some m) at None = tt
-rename_suits p q (Some d) (Some m) at (Some n) = record { slotted = refl; callers = refl; change = λ h. refl; reading = λ e. absurd (true≢false e); goal = λ c e. refl }
+rename_suits p q (Some d) (Some m) at (Some n) = record { slotted = refl; callers = refl; change = λ h. refl; reading = λ e. absurd (true≢false e); asks_some = refl; goal = λ c e. refl }
 
 list_suits : (p : List (List ℕ)) (size : ℕ) (at : Place) (l : Option Listed) → SuitsAll (asks.List p) (list size at l)
 list_suits p size at None = tt
-list_suits p size at (Some l) = record { slotted = refl; callers = refl; change = λ h. absurd (h refl); reading = λ e. refl; goal = λ c e. absurd (true≢false (sym c)) }
+list_suits p size at (Some l) = record { slotted = refl; callers = refl; change = λ h. absurd (h refl); reading = λ e. refl; asks_some = refl; goal = λ c e. absurd (true≢false (sym c)) }
 
 goal_suits : (size : ℕ) (k : Command) (w : Way) → SuitsAll k (goal size k w)
-goal_suits size (asks.Stat p) w = record { slotted = refl; callers = refl; change = λ h. absurd (h refl); reading = λ e. refl; goal = λ c e. absurd (true≢false (sym c)) }
+goal_suits size (asks.Stat p) w = record { slotted = refl; callers = refl; change = λ h. absurd (h refl); reading = λ e. refl; asks_some = refl; goal = λ c e. absurd (true≢false (sym c)) }
 goal_suits size (asks.List p) w = list_suits p size w.at w.listed
 goal_suits size (asks.MakeDir p) w = make_suits p w.at (last_of p)
 goal_suits size (asks.Remove p) w = remove_suits p w.at (last_of p)
 goal_suits size (asks.Rename p q) w = rename_suits p q w.old (last_of p) w.at (last_of q)
 goal_suits size k w = tt
 
+none_ahead : (n : ℕ) → drop n (let e : List (List ℕ) = [] in e) ≡ []
+none_ahead zero = refl
+none_ahead (suc n) = refl
+
+pause_ahead : (k : Command) (w : Way) → is_pause k ≡ true → ahead k w ≡ []
+pause_ahead (asks.Pause s) w e = none_ahead w.walked
+pause_ahead k w e = absurd (true≢false (sym e))
+
 next_suits : (m : Option SessionMade) (k : Command) (w : Way) → SuitsAll k (next_plan m (Some k) w)
-next_suits m k w = walk_suits k (walk_most m) w.at (ahead k w) (goal (list_size m) k w) (goal_suits (list_size m) k w)
+next_suits m k w = walk_suits k (walk_most m) w.at (ahead k w) (goal (list_size m) k w) (pause_ahead k w) (goal_suits (list_size m) k w)
 
 suits_by : (k : Command) (o : Option Plan) (p : Plan) → SuitsAll k o → is_plan o p ≡ true → Suits k p
 suits_by k None p s e = absurd (true≢false (sym e))
@@ -161,9 +179,16 @@ suits_by k (Some q) p s e = alike_suits k q p (alike q p e) s
 pub plan_suits : (m : Option SessionMade) (k : Command) (w : Way) (p : Plan) → is_plan (next_plan m (Some k) w) p ≡ true → Suits k p
 plan_suits m k w p e = suits_by k (next_plan m (Some k) w) p (next_suits m k w) e
 
--- a pause asks for nothing
-pub pause_asks : (m : Option SessionMade) (s : ℕ) (w : Way) (p : Plan) → is_plan (next_plan m (Some (asks.Pause s)) w) p ≡ false
-pause_asks m s w p = none_left w.walked where
-  none_left : (n : ℕ) → is_plan (next_plan m (Some (asks.Pause s)) (record w { walked = n })) p ≡ false
-  none_left zero = refl
-  none_left (suc n) = refl
+pub own_change : (p : Plan) → is_own p ≡ true → change_of p ≡ None
+own_change plan.Complete e = refl
+own_change plan.LeaseTime e = refl
+own_change p e = absurd (true≢false (sym e))
+
+pub change_class : (p : Plan) → change_of p ≢ None → class_of p ≡ Changing
+change_class (plan.CreateFile a b c d) h = refl
+change_class (plan.WriteBytes a b c d) h = refl
+change_class (plan.Resize a b c) h = refl
+change_class (plan.MakeDir a b) h = refl
+change_class (plan.Remove a b) h = refl
+change_class (plan.Rename a b c d) h = refl
+change_class p h = absurd (h refl)

@@ -4,11 +4,15 @@ use Rattle.n41_types.specs.declared.commands.Answer.{Answer}
 use Rattle.n41_types.specs.declared.commands.Answer.TheVariants as says
 use Rattle.n41_types.specs.declared.commands.Command.{Command}
 use Rattle.n41_types.specs.declared.commands.Value.{Value}
+use Rattle.n41_types.specs.declared.plans.Class.TheVariants.{Changing}
+use Rattle.n41_types.specs.declared.plans.Request.{Request}
+use Rattle.n41_types.specs.Plans.{class_of}
 use Rattle.n41_journal.specs.declared.events.Event.{Event}
 use Rattle.n41_model.specs.declared.words.Setup.{Setup}
-use Rattle.n41_model.specs.Answers.{UnknownCause}
+use Rattle.n41_model.specs.Answers.{round_limit}
 use Rattle.n41_model.specs.Kept.{Kept}
 use Rattle.n41_model.specs.OneOut.{OneOut}
+use Rattle.n41_model.specs.Requests.{out, doubt, rounds}
 use Rattle.n41_model.specs.Text.{answer_to}
 use Rattle.n41_runs.specs.Steps.{Step, client}
 use Rattle.n41_runs.specs.Rules.{Legal}
@@ -30,10 +34,16 @@ pub record ActsOnce (n : ℕ) (w : List Step) : Type 0 where
   pub done : (c m : ℕ) (k : Command) (x : Value) → asked (client w) c m ≡ Some k → is_changing k ≡ true → answer_to (client w) c m ≡ Some (says.Done x) → effects_of n w c m ≡ 1
   pub undone : (c m : ℕ) (a : Answer) → answer_to (client w) c m ≡ Some a → is_undone a ≡ true → effects_of n w c m ≡ 0
 
--- a changing request of this very command is the cause
+-- A changing request of this very command is out, a connection of it broke while it was unanswered, and the run ended with sixteen rounds
+-- without a reply.
 pub record IsUnknown (n : ℕ) (js : List Event) (c m : ℕ) : Type 0 where
-  pub cause : UnknownCause n js c
-  pub own : is_named (command_on n js cause.slot) c m ≡ true
+  pub slot : ℕ
+  pub request : Request
+  pub is_out : out js slot ≡ Some request
+  pub own : is_named (command_on n js slot) c m ≡ true
+  pub changing : class_of request.plan ≡ Changing
+  pub broke : doubt js slot ≡ true
+  pub ended : round_limit ≤ rounds js
 
 abbrev pub UnknownCaused : ℕ → List Event → Type 0
 UnknownCaused n js = (c m : ℕ) → answer_to js c m ≡ Some says.Unknown → IsUnknown n js c m
