@@ -17,3 +17,4 @@ pub mod Running
 pub mod Putting
 pub mod Taking
 pub mod Chosen
+pub mod Ledgers
