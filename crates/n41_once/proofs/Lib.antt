@@ -18,3 +18,4 @@ pub mod Putting
 pub mod Taking
 pub mod Chosen
 pub mod Ledgers
+pub mod Told

@@ -403,7 +403,7 @@ tells_is u js y r s (inr (p, t)) =
     subst (λ (x : Option BareVerdict). Tells u js x) (sym d) (tells_none u js s)
 
 -- what is out afterwards was out before
-took_bares : (js : List Event) (c k : ℕ) (y : Reply) (q : Request) → Seats js → bare (Took c k y ∷ js) ≡ Some q → bare js ≡ Some q
+pub took_bares : (js : List Event) (c k : ℕ) (y : Reply) (q : Request) → Seats js → bare (Took c k y ∷ js) ≡ Some q → bare js ≡ Some q
 took_bares js c k y q t e = unless (has y.xid (bare js)) (bare js) (sym (without_is (bares js) y.xid (one_bare (bares js) t.lone)) ∙ e) where
   unless : (d : Bool) (o : Option Request) → (if d then None else o) ≡ Some q → o ≡ Some q
   unless true o e = absurd (cc)
