@@ -19,3 +19,4 @@ pub mod Taking
 pub mod Chosen
 pub mod Ledgers
 pub mod Told
+pub mod Telling

@@ -130,16 +130,16 @@ pub record Told (n : ℕ) (js : List Event) : Type 0 where
 
 -- ---- an event that leaves the ledger
 
-record SameFacts (n : ℕ) (js es : List Event) : Type 0 where
-  ledger : SameLedger n js es
-  outs : (s : ℕ) → out es s ≡ out js s
-  commands : (c : ℕ) → command es c ≡ command js c
-  numbers : (c : ℕ) → number es c ≡ number js c
-  askeds : (c m : ℕ) → asked es c m ≡ asked js c m
-  goes : GoesOn es → GoesOn js
-  bares : (r : Request) → bare es ≡ Some r → is_bare_class (class_of r.plan) ≡ true
+pub record SameFacts (n : ℕ) (js es : List Event) : Type 0 where
+  pub ledger : SameLedger n js es
+  pub outs : (s : ℕ) → out es s ≡ out js s
+  pub commands : (c : ℕ) → command es c ≡ command js c
+  pub numbers : (c : ℕ) → number es c ≡ number js c
+  pub askeds : (c m : ℕ) → asked es c m ≡ asked js c m
+  pub goes : GoesOn es → GoesOn js
+  pub bares : (r : Request) → bare es ≡ Some r → is_bare_class (class_of r.plan) ≡ true
 
-same_told : (n : ℕ) (js es : List Event) → Told n js → SameFacts n js es → Told n es
+pub same_told : (n : ℕ) (js es : List Event) → Told n js → SameFacts n js es → Told n es
 same_told n js es t f = record {
   named_below = λ s a e. let d = f.numbers a.caller in rw d (t.named_below s a (sym (f.ledger.commands s) ∙ e));
   owner_is = λ s. let a = f.ledger.commands s in let d = f.ledger.owners s in rw (a, d) (t.owner_is s);
@@ -171,7 +171,7 @@ same_told n js es t f = record {
 
 -- ---- a new request on a slot
 
-new_told : (u : Setup) (js : List Event) (c k : ℕ) (r : Request) → Seats js → Told u.callers js → PutOf u js r → (a : NewOn u js r) → bare (Put c k r ∷ js) ≡ bare js → Told u.callers (Put c k r ∷ js)
+pub new_told : (u : Setup) (js : List Event) (c k : ℕ) (r : Request) → Seats js → Told u.callers js → PutOf u js r → (a : NewOn u js r) → bare (Put c k r ∷ js) ≡ bare js → Told u.callers (Put c k r ∷ js)
 new_told u js c k r z t g a be = record {
   named_below = λ s x e. below_at s x (p.slot == s) refl (l.commands s) e;
   owner_is = λ s. owner_at s (p.slot == s) refl;
