@@ -1,7 +1,7 @@
 -- Whose each request is, event by event.
 use Rattle.std.proofs.Common.{◌≡◌, ◌≢◌, ◌⊎◌, inl, inr, ℕ, zero, suc, ◌+◌, ◌-◌, ◌<◌, ◌≤◌, ◌==◌, Bool, true, false, ◌&&◌, ◌||◌, not, List, [], ◌∷◌, length, Option, Some, None, if◌then◌else◌, refl, sym, ◌∙◌, ap, subst, arith, true≢false}
 use Rattle.std.proofs.lemmas.Bool.Decides.{nat_tests}
-use Rattle.std.specs.Prelude.{is_some, nat_le}
+use Rattle.std.specs.Prelude.{is_some, nat_le, IsSome}
 use Rattle.n41_types.specs.declared.commands.Answer.{Answer}
 use Rattle.n41_types.specs.declared.commands.Answer.TheVariants as says
 use Rattle.n41_types.specs.declared.commands.Command.{Command}
@@ -255,7 +255,7 @@ end_class (Some m) k p e = let d : plan.DestroySession m.sid ≡ p = cc in subst
 end_class None (Some k) p e = let d : plan.DestroyClient k.id ≡ p = cc in subst (λ (z : Plan). is_bare_class (class_of z) ≡ true) d refl
 end_class None None p e = absurd (cc)
 
-new_class : (u : Setup) (js : List Event) (r : Request) → ByStep u js r ⊎ ByEnd u js r → is_bare_class (class_of r.plan) ≡ true
+pub new_class : (u : Setup) (js : List Event) (r : Request) → ByStep u js r ⊎ ByEnd u js r → is_bare_class (class_of r.plan) ≡ true
 new_class u js r (inl w) = step_class u js (phase js) r.plan w.plan
 new_class u js r (inr w) = end_class (session js) (client js) r.plan w.plan
 
@@ -342,3 +342,280 @@ began_told u js c m k x t h = record {
   asked_at : (d : ℕ) (y : Command) (b : Bool) → (c == d) ≡ b → (if c == d then Some k else command js d) ≡ Some y → (if (c == d) && (m == (if c == d then m else number js d)) then Some k else asked js d (if c == d then m else number js d)) ≡ Some y
   asked_at d y true e f = let g : Some k ≡ Some y = (rw e at f) in let i : (m == m) ≡ true = grind (arith, nat_tests) in rw (e, i) g
   asked_at d y false e f = rw e (t.asked_is d y (rw e at f))
+
+-- ---- a breach is the end
+
+place_none : (o q : Option ℕ) → place_or o q ≢ None → (o ≢ None) ⊎ (q ≢ None)
+place_none None q e = inr e
+place_none (Some p) q e = inl (λ f. absurd (cc))
+
+slot_dead : (q : Plan) (w : Option Verdict) (p : Phase) → p ≡ Dead → (w ≡ None) ⊎ (is_dead (slot_phase q w p) ≡ true) → is_dead (slot_phase q w p) ≡ true
+slot_dead q None p e f = ap (λ (x : Phase). is_dead x) e
+slot_dead q (Some w) p e (inl f) = absurd (cc)
+slot_dead q (Some w) p e (inr f) = f
+
+breach_slot : (q : Plan) (w : Verdict) (p : Phase) → is_breach w ≡ true → is_dead (slot_phase q (Some w) p) ≡ true
+breach_slot q v.Breach p e = refl
+breach_slot q w p e = absurd (true≢false (sym e))
+
+breach_bare : (w : BareVerdict) (p x : Phase) → is_bare_breach w ≡ true → bare_phase (Some w) p x ≡ Dead
+breach_bare b.Breach p x e = refl
+breach_bare w p x e = absurd (true≢false (sym e))
+
+breaks_dead : (q : Plan) (x : Option Verdict) (y : Option BareVerdict) (p w : Phase) → breaks x y ≡ true → is_dead (slot_phase q x (bare_phase y p w)) ≡ true
+breaks_dead q (Some x) y p w e = breach_slot q x (bare_phase y p w) e
+breaks_dead q None (Some y) p w e = ap (λ (z : Phase). is_dead z) (breach_bare y p w e)
+breaks_dead q None None p w e = absurd (true≢false (sym e))
+
+took_dead : (js : List Event) (y : Reply) (p w : Phase) → breaks (verdict js y) (bare_verdict js y) ≡ true → is_dead (took_phase js y p w) ≡ true
+took_dead js y Dead w e = refl
+took_dead js y p w e = breaks_dead (plan_of js y) (verdict js y) (bare_verdict js y) p w e
+
+stays_dead : (js : List Event) (y : Reply) (p w : Phase) → is_dead p ≡ true → is_dead (took_phase js y p w) ≡ true
+stays_dead js y Dead w e = refl
+stays_dead js y p w e = absurd (true≢false (sym e))
+
+dialed_dead : (p : Phase) (m : Option SessionMade) (k : Option KnownClient) → is_dead p ≡ true → is_dead (dialed_phase p m k) ≡ true
+dialed_dead Dead m k e = refl
+dialed_dead p m k e = absurd (true≢false (sym e))
+
+broke_dead : (p : Phase) → is_dead p ≡ true → is_dead (broke_phase p) ≡ true
+broke_dead Dead e = refl
+broke_dead p e = absurd (true≢false (sym e))
+
+some_if : (b : Bool) (k : ℕ) → (if b then Some k else None) ≢ None → b ≡ true
+some_if true k e = refl
+some_if false k e = absurd (e refl)
+
+pub breach_dead : (js : List Event) → breach_at js ≢ None → is_dead (phase js) ≡ true
+breach_dead [] e = absurd (e refl)
+breach_dead (Began c n k t ∷ js) e = breach_dead js e
+breach_dead (Put c p r ∷ js) e = breach_dead js e
+breach_dead (Took c p y ∷ js) e = by (place_none (breach_at js) (if breaks (verdict js y) (bare_verdict js y) then Some (suc (length js)) else None) e) (breach_dead js) where
+  by : (breach_at js ≢ None) ⊎ ((if breaks (verdict js y) (bare_verdict js y) then Some (suc (length js)) else None) ≢ None) → (breach_at js ≢ None → is_dead (phase js) ≡ true) → is_dead (took_phase js y (phases js).0 (phases js).1) ≡ true
+  by (inl f) g = stays_dead js y (phases js).0 (phases js).1 (g f)
+  by (inr f) g = took_dead js y (phases js).0 (phases js).1 (some_if (breaks (verdict js y) (bare_verdict js y)) (suc (length js)) f)
+breach_dead (CbTook c p y ∷ js) e = breach_dead js e
+breach_dead (CbPut c p y ∷ js) e = breach_dead js e
+breach_dead (Dialed c ∷ js) e = dialed_dead (phases js).0 (session js) (client js) (breach_dead js e)
+breach_dead (DialFailed ∷ js) e = breach_dead js e
+breach_dead (Broke c w ∷ js) e = broke_dead (phases js).0 (breach_dead js e)
+breach_dead (Ticked t ∷ js) e = breach_dead js e
+breach_dead (Answered c n a ∷ js) e = breach_dead js e
+breach_dead (Quit ∷ js) e = breach_dead js e
+
+-- ---- a command is answered
+
+-- the answer is one that the command has earned, or that the moments give
+abbrev pub is_given : Answer → Bool
+is_given (says.Done x) = true
+is_given (says.Refused s) = true
+is_given a = false
+
+either_is : (o q : Option Answer) (a : Answer) → either o q ≡ Some a → (o ≢ None) ⊎ (q ≡ Some a)
+either_is None q a e = inr e
+either_is (Some x) q a e = inl (λ f. absurd (cc))
+
+pause_is : (x m : ℕ) (o : Option Command) (a : Answer) → pause_given x m o ≡ Some a → (k : Command) × (o ≡ Some k) × (is_pause k ≡ true)
+pause_is x m (Some (asks.Pause s)) a e = (asks.Pause s, refl, refl)
+pause_is x m o a e = absurd (cc)
+
+pub given_is : (n : ℕ) (js : List Event) (c : ℕ) (a : Answer) → HasCause n js c a → is_given a ≡ true → given n js c ≡ Some a
+given_is n js c (says.Done x) h e = h
+given_is n js c (says.Refused s) h e = h
+given_is n js c a h e = absurd (true≢false (sym e))
+
+named_plan : (u : Setup) (js : List Event) (c s : ℕ) (k : Command) → Told u.callers js → command js c ≡ Some k → (o : Option Request) → out js s ≡ o → o ≢ None → is_named (command_on u.callers js s) c (number js c) ≡ true → is_pause k ≡ false
+named_plan u js c s k t e None f g i = absurd (g refl)
+named_plan u js c s k t e (Some r) f g i =
+    let q = named_is (command_on u.callers js s) c (number js c) i in
+    (t.suits s r q.name k f q.is (ap (λ (x : ℕ). command js x) q.caller ∙ e) (q.number ∙ ap (λ (x : ℕ). number js x) (sym q.caller))).asks_some
+
+-- a caller with an answer of its own has no request out
+pub given_idle : (u : Setup) (js : List Event) (c : ℕ) (a : Answer) → Told u.callers js → command js c ≢ None → given u.callers js c ≡ Some a → (call u.callers js c).busy ≡ false
+given_idle u js c a t h e = by (either_is (call u.callers js c).earned (pause_given (began_on js c) (moment js) (command js c)) a e) where
+  at : (x : Bool) → (call u.callers js c).busy ≡ x → (k : Command) → command js c ≡ Some k → is_pause k ≡ true → (call u.callers js c).busy ≡ false
+  at true f k g i =
+      let q = t.busy_held c f h in
+      absurd (true≢false (sym i ∙ named_plan u js c (held u.callers js c) k t g (out js (held u.callers js c)) refl q.0 q.1))
+  at false f k g i = f
+
+  by : ((call u.callers js c).earned ≢ None) ⊎ (pause_given (began_on js c) (moment js) (command js c) ≡ Some a) → (call u.callers js c).busy ≡ false
+  by (inl f) = t.earned_idle c f
+  by (inr f) = let q = pause_is (began_on js c) (moment js) (command js c) a f in at ((call u.callers js c).busy) refl q.0 q.1 q.2
+
+-- what the cause of an answer leaves: nothing out, or the end of the run
+answer_ends : (u : Setup) (js : List Event) (c : ℕ) (a : Answer) → Told u.callers js → command js c ≢ None → HasCause u.callers js c a → ((call u.callers js c).busy ≡ false) ⊎ (GoesOn js → ⊥)
+answer_ends u js c (says.Done x) t h e = inl (given_idle u js c (says.Done x) t h e)
+answer_ends u js c (says.Refused s) t h e = inl (given_idle u js c (says.Refused s) t h e)
+answer_ends u js c says.Unknown t h e = inr (λ g. let f = e.ended in let i = g.few in absurd (omega arith))
+answer_ends u js c (says.StateLost s) t h e = absurd e
+answer_ends u js c (says.Unreachable k) t h e = inr (λ g. let f = e.ended in let i = g.few in absurd (omega arith))
+answer_ends u js c says.NotOpen t h e = absurd e
+answer_ends u js c (says.Breach p) t h e = inr (λ g. true≢false (sym (breach_dead js (λ f. (let i : Some p ≡ None = sym e ∙ f in absurd (cc)))) ∙ g.alive))
+
+pub some_command : (o : Option Command) → IsSome o → o ≢ None
+some_command None h e = absurd (true≢false (sym h))
+some_command (Some k) h e = absurd (cc)
+
+answered_told : (u : Setup) (js : List Event) (c m : ℕ) (x : Answer) → Told u.callers js → MayAnswer u js c m x → Told u.callers (Answered c m x ∷ js)
+answered_told u js c m x t h = record {
+  named_below = t.named_below;
+  owner_is = t.owner_is;
+  busy_held = λ d e f. busy_at d (c == d) refl e f;
+  out_busy = λ s d e f g. out_at s d (c == d) refl e f g;
+  current = λ g s a e f. current_at g s a (c == a.caller) refl e f;
+  same_owner = λ s d e f g o. same_at s d (c == d) refl e f g o;
+  earned_idle = λ d e. earned_at d (c == d) refl e;
+  suits = λ s r a y e f g i. suits_at s r a y (c == a.caller) refl e f g i;
+  owned = t.owned;
+  bare_class = t.bare_class;
+  one_slot = t.one_slot;
+  asked_is = λ d y e. asked_at d y (c == d) refl e;
+} where
+  asked_some : command js c ≢ None
+  asked_some = some_command (command js c) h.asked
+
+  busy_at : (d : ℕ) (b : Bool) → (c == d) ≡ b → (if c == d then answered_call (call u.callers js d) else call u.callers js d).busy ≡ true → (if c == d then None else command js d) ≢ None → (out js (held u.callers js d) ≢ None) × (is_named (command_on u.callers js (held u.callers js d)) d (number js d) ≡ true)
+  busy_at d true e f g = absurd (g (rw e refl))
+  busy_at d false e f g = t.busy_held d (rw e at f) (rw e at g)
+
+  out_at : (s d : ℕ) (b : Bool) → (c == d) ≡ b → out js s ≢ None → is_named (command_on u.callers js s) d (number js d) ≡ true → (if c == d then None else command js d) ≢ None → ((if c == d then answered_call (call u.callers js d) else call u.callers js d).busy ≡ true) × (held u.callers js d ≡ s)
+  out_at s d true e f g i = absurd (i (rw e refl))
+  out_at s d false e f g i = let q = t.out_busy s d f g (rw e at i) in rw e q
+
+  current_at : GoesOn (Answered c m x ∷ js) → (s : ℕ) (a : CommandName) (b : Bool) → (c == a.caller) ≡ b → out js s ≢ None → command_on u.callers js s ≡ Some a → ((if c == a.caller then None else command js a.caller) ≢ None) × (a.number ≡ number js a.caller)
+  current_at g s a true e f i =
+      let go : GoesOn js = record { alive = g.alive; few = g.few } in
+      let d : c ≡ a.caller = grind (arith, nat_tests, e) in
+      let q = t.current go s a f i in
+      let n = is_so_named (command_on u.callers js s) c (number js c) a i (sym d) (q.1 ∙ ap (λ (z : ℕ). number js z) (sym d)) in
+      absurd (ended go (t.out_busy s c f n asked_some).0 (answer_ends u js c x t asked_some h.cause)) where
+        ended : GoesOn js → (call u.callers js c).busy ≡ true → ((call u.callers js c).busy ≡ false) ⊎ (GoesOn js → ⊥) → ⊥
+        ended go y (inl z) = true≢false (sym y ∙ z)
+        ended go y (inr z) = z go
+  current_at g s a false e f i = let q = t.current (record { alive = g.alive; few = g.few }) s a f i in rw e q
+
+  same_at : (s d : ℕ) (b : Bool) → (c == d) ≡ b → (if c == d then answered_call (call u.callers js d) else call u.callers js d).busy ≡ true → (if c == d then None else command js d) ≢ None → out js s ≢ None → owner u.callers js s ≡ Some d → is_named (command_on u.callers js s) d (number js d) ≡ true
+  same_at s d true e f g i o = absurd (g (rw e refl))
+  same_at s d false e f g i o = t.same_owner s d (rw e at f) (rw e at g) i o
+
+  earned_at : (d : ℕ) (b : Bool) → (c == d) ≡ b → (if c == d then answered_call (call u.callers js d) else call u.callers js d).earned ≢ None → (if c == d then answered_call (call u.callers js d) else call u.callers js d).busy ≡ false
+  earned_at d true e f = absurd (f (rw e refl))
+  earned_at d false e f = rw e (t.earned_idle d (rw e at f))
+
+  suits_at : (s : ℕ) (r : Request) (a : CommandName) (y : Command) (b : Bool) → (c == a.caller) ≡ b → out js s ≡ Some r → command_on u.callers js s ≡ Some a → (if c == a.caller then None else command js a.caller) ≡ Some y → a.number ≡ number js a.caller → Suits y r.plan
+  suits_at s r a y true e f g i j = absurd (let q : None ≡ Some y = (rw e at i) in cc)
+  suits_at s r a y false e f g i j = t.suits s r a y f g (rw e at i) j
+
+  asked_at : (d : ℕ) (y : Command) (b : Bool) → (c == d) ≡ b → (if c == d then None else command js d) ≡ Some y → asked js d (number js d) ≡ Some y
+  asked_at d y true e f = absurd (let q : None ≡ Some y = (rw e at f) in cc)
+  asked_at d y false e f = t.asked_is d y (rw e at f)
+
+-- ---- all events
+
+quiet_told : (u : Setup) (js : List Event) (e : Event) → Told u.callers js → SameFacts u.callers js (e ∷ js) → Told u.callers (e ∷ js)
+quiet_told u js e t f = same_told u.callers js (e ∷ js) t f
+
+-- a round more
+few_rounds : (h : Bool) (r : ℕ) → (h ≡ true → r ≡ 0) → (if h then 0 else suc r) < round_limit → r < round_limit
+few_rounds true r f e = let g = f refl in omega arith
+few_rounds false r f e = omega arith
+
+pub heard_zero : (js : List Event) → heard js ≡ true → rounds js ≡ 0
+heard_zero [] e = refl
+heard_zero (Began c n k t ∷ js) e = heard_zero js e
+heard_zero (Put c p r ∷ js) e = heard_zero js e
+heard_zero (Took c p y ∷ js) e = refl
+heard_zero (CbTook c p y ∷ js) e = heard_zero js e
+heard_zero (CbPut c p y ∷ js) e = heard_zero js e
+heard_zero (Dialed c ∷ js) e = heard_zero js e
+heard_zero (DialFailed ∷ js) e = absurd (true≢false (sym e))
+heard_zero (Broke c w ∷ js) e = absurd (true≢false (sym e))
+heard_zero (Ticked t ∷ js) e = heard_zero js e
+heard_zero (Answered c n a ∷ js) e = heard_zero js e
+heard_zero (Quit ∷ js) e = heard_zero js e
+
+dialed_alive : (p : Phase) (m : Option SessionMade) (k : Option KnownClient) → is_dead (dialed_phase p m k) ≡ false → is_dead p ≡ false
+dialed_alive Dead m k e = e
+dialed_alive p m k e = refl
+
+broke_alive : (p : Phase) → is_dead (broke_phase p) ≡ false → is_dead p ≡ false
+broke_alive Dead e = e
+broke_alive p e = refl
+
+step_told : (u : Setup) (js : List Event) (e : Event) → May u js e → Seats js → Known js → Single u js → Said js → Waiting js → Told u.callers js → Told u.callers (e ∷ js)
+step_told u js (Began c m k x) h z v s i w t = began_told u js c m k x t h
+step_told u js (Put c p r) h z v s i w t = put_told u js c p r z v (put_placed u js h.0 r h.1.is_due) t (put_of u js h.0 r h.1.is_due)
+step_told u js (Took c p y) h z v s i w t = by (takes_is js c p y h.0 z v h.1) where
+  by : TakesIs js y h.0 → Told u.callers (Took c p y ∷ js)
+  by (inl a) = took_bare_told u js c p y h.0 z s w t a
+  by (inr (q, a)) = took_told u js c p y h.0 q z i t a
+step_told u js (CbTook c p x) h z v s i w t = absurd h
+step_told u js (CbPut c p x) h z v s i w t = absurd h
+step_told u js (Dialed c) h z v s i w t = quiet_told u js (Dialed c) t (record {
+  ledger = record { calls = λ d. refl; owners = λ d. refl; commands = λ d. refl; helds = λ d. refl };
+  outs = λ d. refl;
+  commands = λ d. refl;
+  numbers = λ d. refl;
+  askeds = λ d x. refl;
+  goes = λ g. record { alive = dialed_alive (phases js).0 (session js) (client js) g.alive; few = g.few };
+  bares = t.bare_class;
+})
+step_told u js DialFailed h z v s i w t = quiet_told u js DialFailed t (record {
+  ledger = record { calls = λ d. refl; owners = λ d. refl; commands = λ d. refl; helds = λ d. refl };
+  outs = λ d. refl;
+  commands = λ d. refl;
+  numbers = λ d. refl;
+  askeds = λ d x. refl;
+  goes = λ g. record { alive = g.alive; few = few_rounds (heard js) (rounds js) (heard_zero js) g.few };
+  bares = t.bare_class;
+})
+step_told u js (Broke c x) h z v s i w t = quiet_told u js (Broke c x) t (record {
+  ledger = record { calls = λ d. refl; owners = λ d. refl; commands = λ d. refl; helds = λ d. refl };
+  outs = λ d. refl;
+  commands = λ d. refl;
+  numbers = λ d. refl;
+  askeds = λ d y. refl;
+  goes = λ g. record { alive = broke_alive (phases js).0 g.alive; few = few_rounds (heard js) (rounds js) (heard_zero js) g.few };
+  bares = t.bare_class;
+})
+step_told u js (Ticked x) h z v s i w t = quiet_told u js (Ticked x) t (record {
+  ledger = record { calls = λ d. refl; owners = λ d. refl; commands = λ d. refl; helds = λ d. refl };
+  outs = λ d. refl;
+  commands = λ d. refl;
+  numbers = λ d. refl;
+  askeds = λ d y. refl;
+  goes = λ g. record { alive = g.alive; few = g.few };
+  bares = t.bare_class;
+})
+step_told u js (Answered c m a) h z v s i w t = answered_told u js c m a t h
+step_told u js Quit h z v s i w t = quiet_told u js Quit t (record {
+  ledger = record { calls = λ d. refl; owners = λ d. refl; commands = λ d. refl; helds = λ d. refl };
+  outs = λ d. refl;
+  commands = λ d. refl;
+  numbers = λ d. refl;
+  askeds = λ d y. refl;
+  goes = λ g. record { alive = g.alive; few = g.few };
+  bares = t.bare_class;
+})
+
+none_told : (n : ℕ) → Told n []
+none_told n = record {
+  named_below = λ s a e. absurd (cc);
+  owner_is = λ s. refl;
+  busy_held = λ c e f. absurd (true≢false (sym e));
+  out_busy = λ s c e f g. absurd (e refl);
+  current = λ g s a e f. absurd (e refl);
+  same_owner = λ s c e f g h. absurd (true≢false (sym e));
+  earned_idle = λ c e. refl;
+  suits = λ s r a k e f g h. absurd (cc);
+  owned = λ s r e f. absurd (cc);
+  bare_class = λ r e. absurd (cc);
+  one_slot = λ s t c m e f g h. absurd (e refl);
+  asked_is = λ c k e. absurd (cc);
+}
+
+pub told : (u : Setup) (js : List Event) → Kept u js → Told u.callers js
+told u [] k = none_told u.callers
+told u (e ∷ js) k = step_told u js e k.1 (seats u js k.0) (known u js k.0) (single u js k.0) (said u js k.0) (waiting u js k.0) (told u js k.0)
