@@ -298,3 +298,86 @@ answered_settled u js c m x t s h = record {
   unknown_at : (d k : ℕ) (b : Bool) → ((c == d) && (m == k)) ≡ b → (if (c == d) && (m == k) then Some x else answer_to js d k) ≡ Some says.Unknown → IsUnknown u.callers (Answered c m x ∷ js) d k
   unknown_at d k true e f = unknown_still d k (unknown_now d k e (is_x d k says.Unknown e f))
   unknown_at d k false e f = unknown_still d k (s.unknown d k (rw e at f))
+
+-- ---- all events
+
+began_quiet : (u : Setup) (js : List Event) (c m : ℕ) (k : Command) (x : ℕ) → MayBegin u js c m k x → Quiet u.callers js (Began c m k x ∷ js)
+began_quiet u js c m k x h = record {
+  answers = λ _ _. refl;
+  below = λ d. below_at d (c == d) refl;
+  idle = λ d y e f g. idle_at d y (c == d) refl e f g;
+  still = λ d y e f. still_at d y (c == d) refl e f;
+  commands = λ _. refl;
+  outs = λ _ _ e. e;
+  late = λ e. (e, λ _. (refl, refl));
+} where
+  number_same : (d : ℕ) → (c == d) ≡ true → number js c ≡ number js d
+  number_same d e = let f : c ≡ d = grind (arith, nat_tests, e) in ap (λ (y : ℕ). number js y) f
+
+  below_at : (d : ℕ) (b : Bool) → (c == d) ≡ b → number js d ≤ (if c == d then m else number js d)
+  below_at d true e = let f = number_same d e in let g = h.number_is in rw e (omega arith)
+  below_at d false e = rw e (refl_le (number js d)) where
+    refl_le : (a : ℕ) → a ≤ a
+    refl_le a = omega arith
+
+  never : (d y : ℕ) → (c == d) ≡ true → y ≤ number js d → y ≡ m → ⊥
+  never d y e f g = let i = number_same d e in let j = h.number_is in absurd (omega arith)
+
+  idle_at : (d y : ℕ) (b : Bool) → (c == d) ≡ b → y ≤ number js d → y ≡ (if c == d then m else number js d) → command js d ≡ None → (if c == d then Some k else command js d) ≡ None
+  idle_at d y true e f g i = absurd (never d y e f (rw e at g))
+  idle_at d y false e f g i = rw e i
+
+  still_at : (d y : ℕ) (b : Bool) → (c == d) ≡ b → y ≤ number js d → y ≡ (if c == d then m else number js d) → y ≡ number js d
+  still_at d y true e f g = absurd (never d y e f (rw e at g))
+  still_at d y false e f g = (rw e at g)
+
+not_waiting : (s : Sent) → s ≢ Waits → is_waiting s ≡ false
+not_waiting Never e = refl
+not_waiting Waits e = absurd (e refl)
+not_waiting (Delayed m) e = refl
+not_waiting Unbound e = refl
+
+or_no : (b d : Bool) → d ≡ false → (b || d) ≡ b
+or_no true d e = refl
+or_no false d e = e
+
+more_rounds : (h : Bool) (r : ℕ) → (h ≡ true → r ≡ 0) → round_limit ≤ r → round_limit ≤ (if h then 0 else suc r)
+more_rounds true r f e = absurd (let g = f refl in omega arith)
+more_rounds false r f e = omega arith
+
+broke_quiet : (u : Setup) (js : List Event) (c : ℕ) (x : Cause) → Said js → Quiet u.callers js (Broke c x ∷ js)
+broke_quiet u js c x i = same_quiet u.callers js (Broke c x ∷ js) (λ _ _. refl) (λ _. refl) (λ _. refl) (λ _. refl) (λ _ _ e. e) (λ e. (more_rounds (heard js) (rounds js) (heard_zero js) e, λ s. (refl, or_no (doubt js s) (is_waiting (sent js s)) (not_waiting (sent js s) (λ w. not_late js (i.waits_few s w) e)))))
+
+took_quiet : (u : Setup) (js : List Event) (c k : ℕ) (y : Reply) (r : Request) → Seats js → TakesIs js y r → rounds js < round_limit → Quiet u.callers js (Took c k y ∷ js)
+took_quiet u js c k y r z a f = same_quiet u.callers js (Took c k y ∷ js) (λ _ _. refl) (λ _. refl) (λ _. refl) (λ _. refl) (λ s q e. took_outs js c k s y r q z a e) (λ e. not_late js f e)
+
+takes_few : (js : List Event) (y : Reply) (r : Request) → Said js → Waiting js → TakesIs js y r → rounds js < round_limit
+takes_few js y r i w (inl a) = w.few a.waits
+takes_few js y r i w (inr (p, a)) = i.waits_few p.slot a.waits
+
+step_settled : (u : Setup) (js : List Event) (e : Event) → May u js e → Seats js → Known js → Said js → Waiting js → Told u.callers js → Settled u.callers js → Settled u.callers (e ∷ js)
+step_settled u js (Began c m k x) h z v i w t s = quiet_settled u.callers js (Began c m k x ∷ js) s (began_quiet u js c m k x h)
+step_settled u js (Put c p r) h z v i w t s = put_settled u js c p r z t s (put_of u js h.0 r h.1.is_due)
+step_settled u js (Took c p y) h z v i w t s = let a = takes_is js c p y h.0 z v h.1 in quiet_settled u.callers js (Took c p y ∷ js) s (took_quiet u js c p y h.0 z a (takes_few js y h.0 i w a))
+step_settled u js (CbTook c p x) h z v i w t s = absurd h
+step_settled u js (CbPut c p x) h z v i w t s = absurd h
+step_settled u js (Dialed c) h z v i w t s = quiet_settled u.callers js (Dialed c ∷ js) s (same_quiet u.callers js (Dialed c ∷ js) (λ _ _. refl) (λ _. refl) (λ _. refl) (λ _. refl) (λ _ _ e. e) (λ e. (e, λ _. (refl, refl))))
+step_settled u js DialFailed h z v i w t s = quiet_settled u.callers js (DialFailed ∷ js) s (same_quiet u.callers js (DialFailed ∷ js) (λ _ _. refl) (λ _. refl) (λ _. refl) (λ _. refl) (λ _ _ e. e) (λ e. (more_rounds (heard js) (rounds js) (heard_zero js) e, λ _. (refl, refl))))
+step_settled u js (Broke c x) h z v i w t s = quiet_settled u.callers js (Broke c x ∷ js) s (broke_quiet u js c x i)
+step_settled u js (Ticked m) h z v i w t s = quiet_settled u.callers js (Ticked m ∷ js) s (same_quiet u.callers js (Ticked m ∷ js) (λ _ _. refl) (λ _. refl) (λ _. refl) (λ _. refl) (λ _ _ e. e) (λ e. (e, λ _. (refl, refl))))
+step_settled u js (Answered c m a) h z v i w t s = answered_settled u js c m a t s h
+step_settled u js Quit h z v i w t s = quiet_settled u.callers js (Quit ∷ js) s (same_quiet u.callers js (Quit ∷ js) (λ _ _. refl) (λ _. refl) (λ _. refl) (λ _. refl) (λ _ _ e. e) (λ e. (e, λ _. (refl, refl))))
+
+none_settled : (n : ℕ) → Settled n []
+none_settled n = record {
+  below = λ c m e. absurd (e refl);
+  idle = λ c m e f. refl;
+  closed = λ s c m a e f g. absurd (cc);
+  unreached = λ s c m k r e f g h. absurd (cc);
+  possible = λ c m a e. absurd (cc);
+  unknown = λ c m e. absurd (cc);
+}
+
+pub settled : (u : Setup) (js : List Event) → Kept u js → Settled u.callers js
+settled u [] k = none_settled u.callers
+settled u (e ∷ js) k = step_settled u js e k.1 (seats u js k.0) (known u js k.0) (said u js k.0) (waiting u js k.0) (told u js k.0) (settled u js k.0)
