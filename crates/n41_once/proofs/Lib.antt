@@ -21,3 +21,4 @@ pub mod Ledgers
 pub mod Told
 pub mod Telling
 pub mod Settled
+pub mod Acts
