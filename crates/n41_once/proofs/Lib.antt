@@ -22,3 +22,4 @@ pub mod Told
 pub mod Telling
 pub mod Settled
 pub mod Acts
+pub mod Counted
