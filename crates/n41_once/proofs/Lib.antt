@@ -23,3 +23,4 @@ pub mod Telling
 pub mod Settled
 pub mod Acts
 pub mod Counted
+pub mod Counting

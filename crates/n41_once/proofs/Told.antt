@@ -75,14 +75,14 @@ is_so_named o c m a e f g =
     let j : is_named (Some a) c m ≡ true = rw (h, i) refl in
     subst (λ (z : Option CommandName). is_named z c m ≡ true) (sym e) j
 
-caller_is : (o : Option ℕ) (c : ℕ) → is_caller o c ≡ true → o ≡ Some c
+pub caller_is : (o : Option ℕ) (c : ℕ) → is_caller o c ≡ true → o ≡ Some c
 caller_is None c e = absurd (true≢false (sym e))
 caller_is (Some d) c e = let f : d ≡ c = grind (arith, nat_tests, e) in ap (λ (z : ℕ). Some z) f
 
 is_that_caller : (o : Option ℕ) (c : ℕ) → o ≡ Some c → is_caller o c ≡ true
 is_that_caller o c e = let f : is_caller (Some c) c ≡ true = grind (arith, nat_tests) in subst (λ (z : Option ℕ). is_caller z c ≡ true) (sym e) f
 
-last_is : (js : List Event) (o : Option ℕ) (a : CommandName) → last_of js o ≡ Some a → (o ≡ Some a.caller) × (a.number ≡ number js a.caller)
+pub last_is : (js : List Event) (o : Option ℕ) (a : CommandName) → last_of js o ≡ Some a → (o ≡ Some a.caller) × (a.number ≡ number js a.caller)
 last_is js None a e = absurd (cc)
 last_is js (Some d) a e =
     let n : CommandName = record { caller = d; number = number js d } in
@@ -100,7 +100,7 @@ last_named js o c e =
     let j : is_named (last_of js (Some c)) c (number js c) ≡ true = rw (h, i) refl in
     subst (λ (z : Option ℕ). is_named (last_of js z) c (number js c) ≡ true) (sym e) j
 
-named_owner : (js : List Event) (o : Option ℕ) (c m : ℕ) → is_named (last_of js o) c m ≡ true → (o ≡ Some c) × (m ≡ number js c)
+pub named_owner : (js : List Event) (o : Option ℕ) (c m : ℕ) → is_named (last_of js o) c m ≡ true → (o ≡ Some c) × (m ≡ number js c)
 named_owner js o c m e =
     let h = named_is (last_of js o) c m e in
     let i = last_is js o h.name h.is in
