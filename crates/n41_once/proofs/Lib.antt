@@ -24,3 +24,4 @@ pub mod Settled
 pub mod Acts
 pub mod Counted
 pub mod Counting
+pub mod Weighing

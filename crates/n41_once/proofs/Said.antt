@@ -203,13 +203,13 @@ refuses_passes (Some s) e = size_passes s e
 pub gives_final : (y : Reply) → gives_back y ≡ true → is_final y ≡ true
 gives_final y e = refuses_passes (sequence_status y.body) e
 
-used_kept : (t f g : Bool) (u : ℕ) → (t && f) ≡ false → (g ≡ true → f ≡ true) → (if t && g then u - 1 else u) ≡ u
+pub used_kept : (t f g : Bool) (u : ℕ) → (t && f) ≡ false → (g ≡ true → f ≡ true) → (if t && g then u - 1 else u) ≡ u
 used_kept true true g u e h = absurd (true≢false e)
 used_kept true false true u e h = absurd (true≢false (sym (h refl)))
 used_kept true false false u e h = refl
 used_kept false f g u e h = refl
 
-stays : (t f : Bool) (o : Option Request) (q : Request) → (if t && f then None else o) ≡ Some q → (t && f) ≡ false
+pub stays : (t f : Bool) (o : Option Request) (q : Request) → (if t && f then None else o) ≡ Some q → (t && f) ≡ false
 stays true true o q e = absurd (cc)
 stays true false o q e = refl
 stays false f o q e = refl
