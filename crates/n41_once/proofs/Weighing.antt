@@ -21,7 +21,7 @@ use Rattle.n41_model.specs.Text.{answer_to}
 use Rattle.n41_once.proofs.Acts.{acts_in}
 use Rattle.n41_once.proofs.Served.{IsCopy, IsOn, Ran, Says, SaysOn, Served, body_in}
 use Rattle.n41_once.proofs.Suits.{Suits, change_class, is_bare_class, is_dir_change, is_own, is_pause, own_change, plan_itself, session_itself, session_same, is_walk}
-use Rattle.n41_once.proofs.Telling.{Waiting, given_idle, given_is, heard_zero, is_given, new_class, some_command, told, waiting}
+use Rattle.n41_once.proofs.Telling.{Waiting, given_idle, given_is, heard_zero, is_given, new_class, some_command, told, waiting, took_one}
 use Rattle.n41_runs.specs.Effects.{command_at, CommandName, Effect, asked, change_of, command_of, command_on, count_of, effects, effects_of, is_changing, is_named, last_of}
 use Rattle.n41_runs.specs.Good.{IsUnknown, is_undone}
 use Rattle.n41_runs.specs.Rules.{Allowed, IsNoReply, IsRun, LegalBy, MayBeTaken, MayRun, Pending, Sizes}
@@ -56,8 +56,8 @@ use Rattle.n41_once.proofs.Moves.{PutsAgain, PutsNew, TakesBare, TakesIs, TakesO
 use Rattle.n41_once.proofs.Putting.{SameSlot, Slot, itself, puts_served, slot_is, slot_of, slot_same}
 use Rattle.n41_once.proofs.Puts.{AgainBare, AgainOn, ByEnd, ByStep, ForCaller, NewBare, NewOn, PutIs, PutOf, put_of}
 use Rattle.n41_once.proofs.Said.{stays, used_kept, Said, gives_final, last_put, made_first, none_out, said, sent_after_not}
-use Rattle.n41_once.proofs.Single.{Single, given, or_made, sid_in, single, took_bares, took_outs}
-use Rattle.n41_once.proofs.Told.{named_owner, GoesOn, Named, SameFacts, Told, caller_of, is_so_named, named_is, new_told, same_told}
+use Rattle.n41_once.proofs.Single.{Single, given, or_made, sid_in, single, took_bares, took_outs, finishing_answered}
+use Rattle.n41_once.proofs.Told.{named_owner, GoesOn, Named, SameFacts, Told, caller_of, is_so_named, named_is, new_told, same_told, caller_is}
 use Rattle.n41_model.specs.declared.words.Sent.{Sent}
 use Rattle.n41_model.specs.declared.words.Sent.TheVariants.{Delayed, Never, Unbound, Waits}
 use Rattle.n41_once.proofs.Lives.{Lives, lives}
@@ -216,3 +216,149 @@ earns n sizes w r p y c k l m s g q i v.Uncached e = earns_none n w c k (zero_dr
 earns n sizes w r p y c k l m s g q i v.Breach e = absurd (true≢false (sym q.there ∙ i.breach (ap (λ (z : Verdict). is_breach z) e)))
 earns n sizes w r p y c k l m s g q i v.Delayed e = absurd (true≢false (sym q.final ∙ ap (λ (z : Verdict). ends z) e))
 earns n sizes w r p y c k l m s g q i v.Unbound e = absurd (true≢false (sym q.final ∙ ap (λ (z : Verdict). ends z) e))
+
+-- ---- a reply on a slot
+
+at_most : (d : ℕ) → d ≤ d
+at_most d = omega arith
+
+copy_of : (n : ℕ) (sizes : Sizes) (w : List Step) (es : List Event) → Copies n sizes w → ((k : ℕ) → message es k ≡ message (client w) k) → ((k : ℕ) → command_of n es k ≡ command_of n (client w) k) → ((s : ℕ) → command_on n es s ≡ command_on n (client w) s) → ((s : ℕ) (r : Request) → out es s ≡ Some r → (out (client w) s ≡ Some r) × (used es s ≡ used (client w) s)) → (k : ℕ) (r q : Request) (p : SlotUse) → IsCopy sizes es k r p → out es p.slot ≡ Some q → command_of n es k ≡ command_on n es p.slot
+copy_of n sizes w es g a b c d k r q p e f =
+    let h = d p.slot q f in
+    b k ∙ (g k r q p (record { put = sym (a k) ∙ e.put; placed = e.placed; fits = e.fits; turn = e.turn ∙ h.1 }) h.0 ∙ sym (c p.slot))
+
+took_outs_used : (w : List Step) (c m s : ℕ) (y : Reply) (r q : Request) (p : SlotUse) → Seats (client w) → TakesOn (client w) y r p → out (Took c m y ∷ client w) s ≡ Some q → (out (client w) s ≡ Some q) × (used (Took c m y ∷ client w) s ≡ used (client w) s)
+took_outs_used w c m s y r q p z a e =
+    let f = stays (p.slot == s) (is_final y) (out (client w) s) q (sym (took_out (client w) c m s y r p z a) ∙ e) in
+    (took_outs (client w) c m s y r q z (inr (p, a)) e, took_used (client w) c m s y r p a ∙ used_kept (p.slot == s) (is_final y) (gives_back y) (used (client w) s) f (gives_final y))
+
+taken_earned : (u : Setup) (sizes : Sizes) (w : List Step) (k c m : ℕ) (y : Reply) (r : Request) (p : SlotUse) → Kept u (client w) → Seats (client w) → Single u (client w) → Told u.callers (client w) → Lives u w → Served sizes w → Counted u.callers sizes w → fate w k ≡ Some y → TakesOn (client w) y r p → last_put (client w) p.slot ≡ k → Earned u.callers (Takes k c m y ∷ w)
+taken_earned u sizes w k c m y r p kp z s t lv d g f a l = record {
+  idle = λ x e b h. idle_at x e b h (is_caller (owner u.callers (client w) p.slot) x) refl;
+  done = λ x q b e h j. done_at x q b e h j (is_caller (owner u.callers (client w) p.slot) x) refl;
+  refused = λ x st e h. refused_at x st e h (is_caller (owner u.callers (client w) p.slot) x) refl;
+  given = λ x b e. given_at x b e (is_caller (owner u.callers (client w) p.slot) x) refl;
+} where
+  on : IsOn (client w) r p
+  on = record { placed = a.placed; is_out = a.is_out }
+
+  told_by : SaysOn sizes w r p y
+  told_by = d.tells r p y on a.waits (ap (λ (n : ℕ). fate w n) l ∙ f)
+
+  call_here : (x : ℕ) → is_caller (owner u.callers (client w) p.slot) x ≡ true → call u.callers (Took c m y ∷ client w) x ≡ took_one (client w) y r p x (call u.callers (client w) x)
+  call_here x e = took_call_on u.callers (client w) c m x y r p a ∙ ap (λ (b : Bool). if b then took_one (client w) y r p x (call u.callers (client w) x) else call u.callers (client w) x) e
+
+  call_there : (x : ℕ) → is_caller (owner u.callers (client w) p.slot) x ≡ false → call u.callers (Took c m y ∷ client w) x ≡ call u.callers (client w) x
+  call_there x e = took_call_on u.callers (client w) c m x y r p a ∙ ap (λ (b : Bool). if b then took_one (client w) y r p x (call u.callers (client w) x) else call u.callers (client w) x) e
+
+  -- the call is as it was, or it ended with this reply
+  same_or : (x : ℕ) (b : Bool) → (is_final y && (call u.callers (client w) x).busy) ≡ b → (took_one (client w) y r p x (call u.callers (client w) x) ≡ call u.callers (client w) x) ⊎ ((is_final y ≡ true) × ((call u.callers (client w) x).busy ≡ true) × ((took_one (client w) y r p x (call u.callers (client w) x)).earned ≡ answer_in (call u.callers (client w) x).way.listed r.plan (Some (verdict_of r (retried (client w) p.slot) y)) (call u.callers (client w) x).attempts y))
+  same_or x true e = let h = and_both (is_final y) ((call u.callers (client w) x).busy) e in inr (h.0, h.1, rw e refl) where
+    and_both : (a b : Bool) → (a && b) ≡ true → (a ≡ true) × (b ≡ true)
+    and_both true b e = (refl, e)
+    and_both false b e = absurd (true≢false (sym e))
+  same_or x false e = inl (rw e refl)
+
+  command_some : (x : ℕ) (o : Option Command) → command (client w) x ≡ o → command (client w) x ≢ None → (q : Command) × (command (client w) x ≡ Some q)
+  command_some x None e h = absurd (h e)
+  command_some x (Some q) e h = (q, e)
+
+  alive_still : (x : ℕ) → command (client w) x ≢ None → alive w p.sid ≡ true
+  alive_still x e = by (lv.there p.sid (s.on_slot p.slot r p a.is_out a.placed)) where
+    by : (alive w p.sid ≡ true) ⊎ (finishing u.callers (client w) ≡ true) → alive w p.sid ≡ true
+    by (inl h) = h
+    by (inr h) = absurd (e (finishing_answered u.callers (client w) x h (callers u (client w) kp x e)))
+
+  last_of_call : (x : ℕ) (q : Command) → command (client w) x ≡ Some q → is_caller (owner u.callers (client w) p.slot) x ≡ true → is_final y ≡ true → (call u.callers (client w) x).busy ≡ true → Last u.callers w r p y x q
+  last_of_call x q e h j b =
+      let some : command (client w) x ≢ None = (λ i. absurd (let o : Some q ≡ None = sym e ∙ i in cc)) in
+      let p_out : out (client w) p.slot ≢ None = (λ i. absurd (let o : Some r ≡ None = sym a.is_out ∙ i in cc)) in
+      let n = t.same_owner p.slot x b some p_out (caller_is (owner u.callers (client w) p.slot) x h) in
+      let i = named_is (command_on u.callers (client w) p.slot) x (number (client w) x) n in
+      record {
+        on = on;
+        asked = e;
+        named = n;
+        suits = t.suits p.slot r i.name q a.is_out i.is (ap (λ (v2 : ℕ). command (client w) v2) i.caller ∙ e) (i.number ∙ ap (λ (v2 : ℕ). number (client w) v2) (sym i.caller));
+        final = sym (final_is r (retried (client w) p.slot) y) ∙ j;
+        there = alive_still x some;
+      }
+
+  gain : (x : ℕ) (q : Command) → command (client w) x ≡ Some q → is_caller (owner u.callers (client w) p.slot) x ≡ true → is_final y ≡ true → (call u.callers (client w) x).busy ≡ true → Earns u.callers w x q (answer_in (call u.callers (client w) x).way.listed r.plan (Some (verdict_of r (retried (client w) p.slot) y)) (call u.callers (client w) x).attempts y)
+  gain x q e h j b = earns u.callers sizes w r p y x q (call u.callers (client w) x).way.listed (call u.callers (client w) x).attempts d g.weighed (last_of_call x q e h j b) told_by (verdict_of r (retried (client w) p.slot) y) refl
+
+  idle_at : (x : ℕ) → command (client w) x ≢ None → (call u.callers (Took c m y ∷ client w) x).busy ≡ false → (call u.callers (Took c m y ∷ client w) x).earned ≡ None → (b : Bool) → is_caller (owner u.callers (client w) p.slot) x ≡ b → effects_of u.callers w x (number (client w) x) ≡ 0
+  idle_at x e b h false j = g.earned.idle x e (sym (ap (λ (i : Call). i.busy) (call_there x j)) ∙ b) (sym (ap (λ (i : Call). i.earned) (call_there x j)) ∙ h)
+  idle_at x e b h true j = by (same_or x (is_final y && (call u.callers (client w) x).busy) refl) (command_some x (command (client w) x) refl e) where
+    by : (took_one (client w) y r p x (call u.callers (client w) x) ≡ call u.callers (client w) x) ⊎ ((is_final y ≡ true) × ((call u.callers (client w) x).busy ≡ true) × ((took_one (client w) y r p x (call u.callers (client w) x)).earned ≡ answer_in (call u.callers (client w) x).way.listed r.plan (Some (verdict_of r (retried (client w) p.slot) y)) (call u.callers (client w) x).attempts y)) → (q : Command) × (command (client w) x ≡ Some q) → effects_of u.callers w x (number (client w) x) ≡ 0
+    by (inl i) q = let o = call_here x j ∙ i in g.earned.idle x e (sym (ap (λ (i2 : Call). i2.busy) o) ∙ b) (sym (ap (λ (i2 : Call). i2.earned) o) ∙ h)
+    by (inr (i, o, n)) (q, v2) = (gain x q v2 j i o).idle (sym n ∙ (sym (ap (λ (i2 : Call). i2.earned) (call_here x j)) ∙ h))
+
+  done_at : (x : ℕ) (q : Command) (b : Value) → command (client w) x ≡ Some q → (call u.callers (Took c m y ∷ client w) x).earned ≡ Some (says.Done b) → is_changing q ≡ true → (i : Bool) → is_caller (owner u.callers (client w) p.slot) x ≡ i → effects_of u.callers w x (number (client w) x) ≡ 1
+  done_at x q b e h j false i = g.earned.done x q b e (sym (ap (λ (o : Call). o.earned) (call_there x i)) ∙ h) j
+  done_at x q b e h j true i = by (same_or x (is_final y && (call u.callers (client w) x).busy) refl) where
+    by : (took_one (client w) y r p x (call u.callers (client w) x) ≡ call u.callers (client w) x) ⊎ ((is_final y ≡ true) × ((call u.callers (client w) x).busy ≡ true) × ((took_one (client w) y r p x (call u.callers (client w) x)).earned ≡ answer_in (call u.callers (client w) x).way.listed r.plan (Some (verdict_of r (retried (client w) p.slot) y)) (call u.callers (client w) x).attempts y)) → effects_of u.callers w x (number (client w) x) ≡ 1
+    by (inl o) = g.earned.done x q b e (sym (ap (λ (i2 : Call). i2.earned) (call_here x i ∙ o)) ∙ h) j
+    by (inr (o, n, v2)) = (gain x q e i o n).done b (sym v2 ∙ (sym (ap (λ (i2 : Call). i2.earned) (call_here x i)) ∙ h)) j
+
+  refused_at : (x : ℕ) (st : Status) → command (client w) x ≢ None → (call u.callers (Took c m y ∷ client w) x).earned ≡ Some (says.Refused st) → (i : Bool) → is_caller (owner u.callers (client w) p.slot) x ≡ i → effects_of u.callers w x (number (client w) x) ≡ 0
+  refused_at x st e h false i = g.earned.refused x st e (sym (ap (λ (o : Call). o.earned) (call_there x i)) ∙ h)
+  refused_at x st e h true i = by (same_or x (is_final y && (call u.callers (client w) x).busy) refl) (command_some x (command (client w) x) refl e) where
+    by : (took_one (client w) y r p x (call u.callers (client w) x) ≡ call u.callers (client w) x) ⊎ ((is_final y ≡ true) × ((call u.callers (client w) x).busy ≡ true) × ((took_one (client w) y r p x (call u.callers (client w) x)).earned ≡ answer_in (call u.callers (client w) x).way.listed r.plan (Some (verdict_of r (retried (client w) p.slot) y)) (call u.callers (client w) x).attempts y)) → (q : Command) × (command (client w) x ≡ Some q) → effects_of u.callers w x (number (client w) x) ≡ 0
+    by (inl o) q = g.earned.refused x st e (sym (ap (λ (i2 : Call). i2.earned) (call_here x i ∙ o)) ∙ h)
+    by (inr (o, n, v2)) (q, j) = (gain x q j i o n).refused st (sym v2 ∙ (sym (ap (λ (i2 : Call). i2.earned) (call_here x i)) ∙ h))
+
+  -- the kinds of answers that a reply gives, of whatever command
+  gives_kind : (o : Option Listed) (x : Option Verdict) (n : ℕ) (b : Answer) → answer_in o r.plan x n y ≡ Some b → is_given b ≡ true
+  gives_kind o (Some (v.Ran st)) n b e = by (is_ok st) refl where
+    again_by : (i : Bool) → (if i then None else Some (says.Refused st)) ≡ Some b → is_given b ≡ true
+    again_by true h = absurd (cc)
+    again_by false h = let j : says.Refused st ≡ b = cc in subst (λ (q : Answer). is_given q ≡ true) j refl
+
+    by : (i : Bool) → is_ok st ≡ i → is_given b ≡ true
+    by true h = done_given (value_of o r.plan y) b (rw h at e)
+    by false h = again_by (is_again st n) (rw h at e)
+  gives_kind o (Some (v.TooBig st)) n b e = let j : says.Refused st ≡ b = cc in subst (λ (q : Answer). is_given q ≡ true) j refl
+  gives_kind o x n b e = absurd (cc)
+
+  given_at : (x : ℕ) (b : Answer) → (call u.callers (Took c m y ∷ client w) x).earned ≡ Some b → (i : Bool) → is_caller (owner u.callers (client w) p.slot) x ≡ i → is_given b ≡ true
+  given_at x b e false i = g.earned.given x b (sym (ap (λ (o : Call). o.earned) (call_there x i)) ∙ e)
+  given_at x b e true i = by (same_or x (is_final y && (call u.callers (client w) x).busy) refl) where
+    by : (took_one (client w) y r p x (call u.callers (client w) x) ≡ call u.callers (client w) x) ⊎ ((is_final y ≡ true) × ((call u.callers (client w) x).busy ≡ true) × ((took_one (client w) y r p x (call u.callers (client w) x)).earned ≡ answer_in (call u.callers (client w) x).way.listed r.plan (Some (verdict_of r (retried (client w) p.slot) y)) (call u.callers (client w) x).attempts y)) → is_given b ≡ true
+    by (inl o) = g.earned.given x b (sym (ap (λ (i2 : Call). i2.earned) (call_here x i ∙ o)) ∙ e)
+    by (inr (o, n, v2)) = gives_kind (call u.callers (client w) x).way.listed (Some (verdict_of r (retried (client w) p.slot) y)) (call u.callers (client w) x).attempts b (sym v2 ∙ (sym (ap (λ (i2 : Call). i2.earned) (call_here x i)) ∙ e))
+
+taken_counted : (u : Setup) (sizes : Sizes) (w : List Step) (k c m : ℕ) (y : Reply) (r : Request) → Kept u (client w) → Seats (client w) → Single u (client w) → Told u.callers (client w) → Lives u w → Served sizes w → Counted u.callers sizes w → MayBeTaken w k c y → TakenIs (client w) k y r → Counted u.callers sizes (Takes k c m y ∷ w)
+taken_counted u sizes w k c m y r kp z s t lv d g a (inl (b, e, l)) = record {
+  weighed = keep_weighed u.callers w (Takes k c m y) g.weighed (record {
+    lasts = λ _ _. refl;
+    kepts = λ _ _. refl;
+    effs = refl;
+    outs = outs_used;
+    names = λ _. refl;
+    numbers = λ x. at_most (number (client w) x);
+    done = g.weighed.done;
+    undone = g.weighed.undone;
+  });
+  earned = keep_earned u.callers w (Takes k c m y) g.earned (record { effs = refl; calls = λ x. took_call_bare u.callers (client w) c m x y r b; commands = λ _. refl; numbers = λ _. refl });
+  copies = copy_of u.callers sizes w (Took c m y ∷ client w) g.copies (λ _. refl) (λ _. refl) (λ _. refl) outs_used;
+} where
+  outs_used : (n : ℕ) (q : Request) → out (Took c m y ∷ client w) n ≡ Some q → (out (client w) n ≡ Some q) × (used (Took c m y ∷ client w) n ≡ used (client w) n)
+  outs_used n q f = (took_outs (client w) c m n y r q z (inl b) f, by (made (client w) y) refl) where
+    by : (o : Option SessionMade) → made (client w) y ≡ o → used (Took c m y ∷ client w) n ≡ used (client w) n
+    by None h = bare_took_used (client w) c m n y r b ∙ ap (λ (o : Option SessionMade). if is_some o then 0 else used (client w) n) h
+    by (Some x) h = absurd (let i : None ≡ Some q = sym (bare_took (client w) c m n y r z b ∙ ap (λ (o : Option SessionMade). if is_some o then None else out (client w) n) h) ∙ f in cc)
+taken_counted u sizes w k c m y r kp z s t lv d g a (inr (p, b, e, l)) = record {
+  weighed = keep_weighed u.callers w (Takes k c m y) g.weighed (record {
+    lasts = λ _ _. refl;
+    kepts = λ _ _. refl;
+    effs = refl;
+    outs = λ n q f. took_outs_used w c m n y r q p z b f;
+    names = λ _. refl;
+    numbers = λ x. at_most (number (client w) x);
+    done = g.weighed.done;
+    undone = g.weighed.undone;
+  });
+  earned = taken_earned u sizes w k c m y r p kp z s t lv d g a.made b l;
+  copies = copy_of u.callers sizes w (Took c m y ∷ client w) g.copies (λ _. refl) (λ _. refl) (λ _. refl) (λ n q f. took_outs_used w c m n y r q p z b f);
+}
