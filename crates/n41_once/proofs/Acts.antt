@@ -1,13 +1,9 @@
 -- Which results are those of a change, and what they earn.
-use Rattle.std.proofs.Common.{◌≡◌, ◌≢◌, ◌⊎◌, inl, inr, ℕ, zero, suc, ◌+◌, ◌==◌, Bool, true, false, ◌&&◌, ◌||◌, not, List, [], ◌∷◌, Option, Some, None, Ok, Err, if◌then◌else◌, refl, sym, ◌∙◌, ap, subst, arith, true≢false}
+use Rattle.std.proofs.Common.{◌≡◌, ◌≢◌, ◌⊎◌, inl, inr, ℕ, ◌+◌, ◌==◌, Bool, true, false, ◌||◌, List, [], ◌∷◌, Option, Some, None, Ok, if◌then◌else◌, refl, sym, ◌∙◌, ap, subst, arith, true≢false}
 use Rattle.std.proofs.lemmas.Bool.Decides.{nat_tests}
 use Rattle.std.specs.List.{list_any}
-use Rattle.n41_types.specs.declared.commands.Answer.{Answer}
-use Rattle.n41_types.specs.declared.commands.Answer.TheVariants as says
-use Rattle.n41_types.specs.declared.commands.Value.{Value}
 use Rattle.n41_types.specs.declared.operations.Operation.{Operation}
 use Rattle.n41_types.specs.declared.operations.Operation.TheVariants as op
-use Rattle.n41_types.specs.declared.plans.Class.{Class}
 use Rattle.n41_types.specs.declared.plans.Class.TheVariants.{Reading, Changing}
 use Rattle.n41_types.specs.declared.plans.Place.{Place}
 use Rattle.n41_types.specs.declared.plans.Place.TheVariants.{Root, At}
@@ -28,12 +24,10 @@ use Rattle.n41_results.specs.declared.shapes.Shape.{Shape}
 use Rattle.n41_results.specs.Results.{ok, operation_of, status_of}
 use Rattle.n41_results.specs.Shapes.{put_of, operations_of, behind, asked_of, shape_from, shape_of, misfit, nothing_after, attr_or, unasked_in, body_shape}
 use Rattle.n41_model.specs.declared.words.Listed.{Listed}
-use Rattle.n41_model.specs.declared.words.Verdict.{Verdict}
-use Rattle.n41_model.specs.declared.words.Verdict.TheVariants as v
-use Rattle.n41_model.specs.Calls.{answer_in, done_with, value_of, body_value, is_again}
+use Rattle.n41_model.specs.Calls.{value_of, body_value}
 use Rattle.n41_model.specs.Replies.{is_ok, body_verdict, verdict_of}
 use Rattle.n41_once.proofs.Suits.{is_dir_change, is_walk}
-use Rattle.n41_once.proofs.Verdicts.{is_ran, run_verdict}
+use Rattle.n41_once.proofs.Verdicts.{is_ran}
 use Rattle.n41_runs.specs.Effects.{change_of, is_done, has_done, acts}
 use Rattle.n41_runs.specs.Rules.{IsRun}
 use Rattle.n41_runs.specs.Steps.{ran_reply, end_status}

@@ -1,5 +1,5 @@
 -- The steps of the server with which nothing runs on a slot.
-use Rattle.std.proofs.Common.{◌≡◌, ◌≢◌, ◌⊎◌, inl, inr, ℕ, zero, suc, ◌+◌, ◌<◌, ◌≤◌, ◌==◌, Bool, true, false, ◌&&◌, ◌||◌, not, List, [], ◌∷◌, Option, Some, None, if◌then◌else◌, refl, sym, ◌∙◌, ap, subst, arith, true≢false}
+use Rattle.std.proofs.Common.{◌≡◌, ◌≢◌, ◌⊎◌, inl, inr, ℕ, suc, ◌<◌, ◌==◌, Bool, true, false, ◌&&◌, ◌||◌, not, List, ◌∷◌, Option, Some, None, if◌then◌else◌, refl, sym, ◌∙◌, ap, subst, arith, true≢false}
 use Rattle.std.proofs.lemmas.Bool.Decides.{nat_tests}
 use Rattle.std.specs.Prelude.{nat_le, min}
 use Rattle.n41_types.specs.declared.identities.SessionId.{SessionId}
@@ -17,19 +17,16 @@ use Rattle.n41_results.specs.declared.sessions.Bound.{Bound}
 use Rattle.n41_results.specs.declared.sessions.Identity.{Identity}
 use Rattle.n41_results.specs.declared.sessions.SessionMade.{SessionMade}
 use Rattle.n41_results.specs.Shapes.{shape_of}
-use Rattle.n41_journal.specs.declared.events.Event.{Event}
-use Rattle.n41_model.specs.declared.words.Sent.TheVariants.{Waits}
 use Rattle.n41_model.specs.declared.words.Setup.{Setup}
 use Rattle.n41_model.specs.declared.words.Verdict.{Verdict}
 use Rattle.n41_model.specs.declared.words.Verdict.TheVariants as v
 use Rattle.n41_model.specs.Replies.{verdict_of, body_verdict, refused_verdict, uncached_verdict, is_breach, is_delay, is_not_bound, is_size_refusal}
-use Rattle.n41_model.specs.Requests.{out, used, sent, retried, doubt}
-use Rattle.n41_model.specs.Sessions.{slots}
+use Rattle.n41_model.specs.Requests.{used, retried}
 use Rattle.n41_once.proofs.Known.{Known}
-use Rattle.n41_once.proofs.Lives.{Lives, WasMade}
-use Rattle.n41_once.proofs.Net.{Net, Serves, repeats_serves, refuses_serves, names_serves, makes_serves, binds_serves, ends_serves}
+use Rattle.n41_once.proofs.Lives.{Lives}
+use Rattle.n41_once.proofs.Net.{repeats_serves, refuses_serves, names_serves, makes_serves, binds_serves, ends_serves}
 use Rattle.n41_once.proofs.Said.{Said, last_put, slots_are}
-use Rattle.n41_once.proofs.Served.{Served, Says, SaysOn, IsOn, Answers, Ran, answers_served}
+use Rattle.n41_once.proofs.Served.{Served, Says, SaysOn, IsOn, Ran, answers_served}
 use Rattle.n41_once.proofs.Single.{Single, given, sid_in}
 use Rattle.n41_once.proofs.Suits.{session_same}
 use Rattle.n41_once.proofs.Verdicts.{is_ran, is_dropped, is_too_big, dropped_verdict, dropped_is, refusal_verdict, delay_verdict, gone_verdict, unbound_verdict, size_verdict}

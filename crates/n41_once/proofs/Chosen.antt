@@ -1,5 +1,5 @@
 -- The caller for whom a request is put.
-use Rattle.std.proofs.Common.{◌≡◌, ◌≢◌, ◌⊎◌, inl, inr, ℕ, zero, suc, ◌+◌, ◌<◌, ◌≤◌, ◌==◌, Bool, true, false, ◌&&◌, ◌||◌, not, List, [], ◌∷◌, Option, Some, None, if◌then◌else◌, refl, sym, ◌∙◌, ap, subst, arith, true≢false}
+use Rattle.std.proofs.Common.{◌≡◌, ◌≢◌, ◌⊎◌, inl, inr, ℕ, zero, suc, ◌<◌, ◌==◌, Bool, true, false, ◌&&◌, not, List, Option, Some, None, if◌then◌else◌, refl, sym, ◌∙◌, subst, arith, true≢false}
 use Rattle.std.proofs.lemmas.Bool.Decides.{nat_tests}
 use Rattle.std.specs.Prelude.{is_none, nat_lt}
 use Rattle.n41_types.specs.declared.commands.Answer.{Answer}
@@ -10,7 +10,7 @@ use Rattle.n41_types.specs.Plans.{class_of}
 use Rattle.n41_journal.specs.declared.events.Event.{Event}
 use Rattle.n41_model.specs.declared.words.Phase.{Phase}
 use Rattle.n41_model.specs.declared.words.Phase.TheVariants.{Running}
-use Rattle.n41_model.specs.Calls.{Call, Ledger, command, began_at, call, ledger, chosen, sooner, is_ready_call, is_plan, next_plan, in_running}
+use Rattle.n41_model.specs.Calls.{Call, command, began_at, call, ledger, chosen, sooner, is_ready_call, is_plan, next_plan, in_running}
 use Rattle.n41_model.specs.Requests.{moment}
 use Rattle.n41_model.specs.Sessions.{phase, session, passed}
 use Rattle.n41_once.proofs.Suits.{Suits, is_bare_class, plan_suits}

@@ -1,6 +1,5 @@
 -- How often each command took effect: what stays.
-use Rattle.std.proofs.Common.{◌≡◌, ◌≢◌, ◌⊎◌, inl, inr, ℕ, zero, suc, ◌+◌, ◌<◌, ◌≤◌, ◌==◌, Bool, true, false, ◌&&◌, ◌||◌, not, List, [], ◌∷◌, Option, Some, None, if◌then◌else◌, refl, sym, ◌∙◌, ap, subst, arith, true≢false}
-use Rattle.std.proofs.lemmas.Bool.Decides.{nat_tests}
+use Rattle.std.proofs.Common.{◌≡◌, ◌≢◌, ℕ, ◌<◌, ◌≤◌, Bool, true, false, List, ◌∷◌, Option, Some, None, sym, ◌∙◌, ap, arith}
 use Rattle.std.specs.Prelude.{All, IsSome}
 use Rattle.n41_types.specs.declared.commands.Answer.{Answer}
 use Rattle.n41_types.specs.declared.commands.Answer.TheVariants as says
@@ -11,8 +10,6 @@ use Rattle.n41_types.specs.declared.plans.Request.{Request}
 use Rattle.n41_types.specs.declared.plans.SlotUse.{SlotUse}
 use Rattle.n41_types.specs.declared.statuses.Status.{Status}
 use Rattle.n41_results.specs.declared.replies.ReplyBody.{ReplyBody}
-use Rattle.n41_journal.specs.declared.events.Event.{Event}
-use Rattle.n41_model.specs.declared.words.Verdict.{Verdict}
 use Rattle.n41_model.specs.declared.words.Verdict.TheVariants as v
 use Rattle.n41_model.specs.Calls.{Call, call, command, number}
 use Rattle.n41_model.specs.Replies.{is_ok, body_verdict}

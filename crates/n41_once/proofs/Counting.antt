@@ -1,7 +1,6 @@
 -- How often each command took effect, event by event.
-use Rattle.std.proofs.Common.{Bool, List, None, Option, Some, [], ap, arith, false, if◌then◌else◌, inl, inr, length, not, refl, subst, suc, sym, true, true≢false, zero, ℕ, ◌&&◌, ◌+◌, ◌-◌, ◌<◌, ◌==◌, ◌||◌, ◌∙◌, ◌∷◌, ◌≡◌, ◌≢◌, ◌≤◌, ◌⊎◌}
+use Rattle.std.proofs.Common.{Bool, List, None, Option, Some, ap, arith, false, if◌then◌else◌, inl, inr, refl, subst, suc, sym, true, true≢false, ℕ, ◌==◌, ◌∙◌, ◌∷◌, ◌≡◌, ◌≢◌, ◌≤◌, ◌⊎◌}
 use Rattle.std.proofs.lemmas.Bool.Decides.{nat_tests}
-use Rattle.std.specs.Prelude.{All, IsSome, is_some, nat_le}
 use Rattle.n41_types.specs.declared.commands.Answer.{Answer}
 use Rattle.n41_types.specs.declared.commands.Answer.TheVariants as says
 use Rattle.n41_types.specs.declared.commands.Command.{Command}
@@ -12,65 +11,33 @@ use Rattle.n41_types.specs.declared.plans.SlotUse.{SlotUse}
 use Rattle.n41_types.specs.declared.statuses.Status.{Status}
 use Rattle.n41_results.specs.declared.replies.ReplyBody.{ReplyBody}
 use Rattle.n41_journal.specs.declared.events.Event.{Event}
-use Rattle.n41_model.specs.declared.words.Verdict.{Verdict}
 use Rattle.n41_model.specs.declared.words.Verdict.TheVariants as v
-use Rattle.n41_model.specs.Calls.{Call, answered_call, began_on, call, chosen, command, either, fresh_call, given as given_answer, in_running, is_caller, is_plan, ledger, number, owner, pause_given, put_call, took_call, way_of}
-use Rattle.n41_model.specs.Replies.{body_verdict, gives_back, is_bare_breach, is_breach, is_final, is_ok, sequence_status, verdict_of}
-use Rattle.n41_model.specs.Requests.{slot_number, bare, bare_verdict, bare_waits, bares, doubt, first, heard, is_bare, is_bare_use, is_on, is_waiting, knows, made, moment, out, outs, retried, rounds, sent, sent_after, standing, turn_of, used, verdict}
-use Rattle.n41_model.specs.Text.{answer_to}
+use Rattle.n41_model.specs.Calls.{Call, call, command, is_caller, number, put_call}
+use Rattle.n41_model.specs.Replies.{body_verdict, is_ok}
+use Rattle.n41_model.specs.Requests.{slot_number, first, out, used}
 use Rattle.n41_once.proofs.Acts.{acts_in}
-use Rattle.n41_once.proofs.Served.{IsCopy, IsOn, Ran, Says, SaysOn, Served, body_in}
-use Rattle.n41_once.proofs.Suits.{Suits, change_class, is_bare_class, is_dir_change, is_own, is_pause, own_change, plan_itself, session_itself, session_same}
-use Rattle.n41_once.proofs.Telling.{Waiting, given_idle, given_is, heard_zero, is_given, new_class, some_command, told, waiting}
-use Rattle.n41_runs.specs.Effects.{command_at, CommandName, Effect, asked, change_of, command_of, command_on, count_of, effects, effects_of, is_changing, is_named, last_of}
-use Rattle.n41_runs.specs.Good.{IsUnknown, is_undone}
-use Rattle.n41_runs.specs.Rules.{Allowed, IsNoReply, IsRun, LegalBy, MayBeTaken, MayRun, Pending, Sizes}
-use Rattle.n41_runs.specs.Server.{alive, is_at, is_session, kept, last}
-use Rattle.n41_runs.specs.Steps.{Binds, Does, Ends, Makes, Names, Refuses, Repeats, Runs, Step, Takes, carrier, client, end_status, fate, message, messages, ran_reply}
-use Rattle.n41_types.specs.declared.commands.Command.TheVariants as asks
-use Rattle.n41_types.specs.declared.plans.Plan.{Plan}
-use Rattle.n41_types.specs.declared.plans.Plan.TheVariants as plan
-use Rattle.n41_types.specs.Plans.{class_of}
-use Rattle.n41_results.specs.declared.replies.Reply.{Reply}
+use Rattle.n41_once.proofs.Served.{IsCopy, IsOn, Served}
+use Rattle.n41_once.proofs.Suits.{is_dir_change}
+use Rattle.n41_once.proofs.Telling.{is_given}
+use Rattle.n41_runs.specs.Effects.{command_at, CommandName, command_of, command_on, effects_of, is_changing, is_named, last_of}
+use Rattle.n41_runs.specs.Rules.{Sizes}
+use Rattle.n41_runs.specs.Server.{kept, last}
+use Rattle.n41_runs.specs.Steps.{Does, Step, client, message, messages}
 use Rattle.n41_results.specs.declared.sessions.SessionMade.{SessionMade}
-use Rattle.n41_journal.specs.declared.events.Cause.{Cause}
-use Rattle.n41_journal.specs.declared.events.Event.TheVariants.{Answered, Began, Broke, CbPut, CbTook, DialFailed, Dialed, Put, Quit, Ticked, Took}
-use Rattle.n41_model.specs.declared.words.BareVerdict.{BareVerdict}
-use Rattle.n41_model.specs.declared.words.BareVerdict.TheVariants as b
-use Rattle.n41_model.specs.declared.words.KnownClient.{KnownClient}
-use Rattle.n41_model.specs.declared.words.Phase.{Phase}
-use Rattle.n41_model.specs.declared.words.Phase.TheVariants.{Binding, ClientId, Dead, Down, Running, Session}
+use Rattle.n41_journal.specs.declared.events.Event.TheVariants.{Put}
 use Rattle.n41_model.specs.declared.words.Setup.{Setup}
-use Rattle.n41_model.specs.Answers.{HasCause, UnknownCause, UnreachableCause, breach_at, breaks, place_or, round_limit}
-use Rattle.n41_model.specs.Due.{bind_in, create_in, destroy_in, destroy_plan, finishing, is_dead, phase_plan, step_plan}
-use Rattle.n41_model.specs.Kept.{Kept, May, MayAnswer, MayBegin}
-use Rattle.n41_model.specs.Sessions.{bare_phase, broke_phase, dialed_phase, phase, phases, plan_of, session, slot_phase, took_phase}
-use Rattle.n41_model.proofs.Slots.{Seats, seats}
-use Rattle.n41_once.proofs.Chosen.{IsReady, Wants, bare_owner, new_owner, owner_ready, wants_chosen}
-use Rattle.n41_once.proofs.Fresh.{Placed, put_placed}
-use Rattle.n41_once.proofs.Found.{no_use, use_on}
-use Rattle.n41_once.proofs.Known.{Known, known, put_out_bare}
-use Rattle.n41_once.proofs.Ledgers.{NewLedger, SameLedger, again_moves, bare_moves, held, new_moves, took_call_bare, took_call_on}
-use Rattle.n41_once.proofs.Lists.{first_bare, first_on}
-use Rattle.n41_once.proofs.Moves.{PutsAgain, PutsNew, TakesBare, TakesIs, TakesOn, again_out, bare_on_none, bare_outs, bare_took, bare_took_sent, bare_took_used, new_out, puts_again, puts_new, takes_is, took_out, took_sent, took_used}
-use Rattle.n41_once.proofs.Putting.{SameSlot, Slot, itself, puts_served, slot_is, slot_of, slot_same}
-use Rattle.n41_once.proofs.Puts.{AgainBare, AgainOn, ByEnd, ByStep, ForCaller, NewBare, NewOn, PutIs, PutOf, put_of}
-use Rattle.n41_once.proofs.Said.{Said, gives_final, last_put, made_first, none_out, said, sent_after_not}
-use Rattle.n41_once.proofs.Single.{Single, given, or_made, sid_in, single, took_bares, took_outs}
-use Rattle.n41_once.proofs.Told.{named_owner, GoesOn, Named, SameFacts, Told, caller_of, is_so_named, named_is, new_told, same_told}
-use Rattle.n41_model.specs.declared.words.Sent.{Sent}
-use Rattle.n41_model.specs.declared.words.Sent.TheVariants.{Delayed, Never, Unbound, Waits}
-use Rattle.n41_once.proofs.Lives.{Lives, lives}
-use Rattle.n41_once.proofs.Net.{Net, TakenIs, net, put_fresh, put_message, taken_is}
-use Rattle.n41_once.proofs.Answering.{binds_served, ends_served, makes_served, names_served, refuses_served, repeats_served}
-use Rattle.n41_once.proofs.Running.{runs_served}
-use Rattle.n41_once.proofs.Verdicts.{ends, final_is, gives_is, is_dropped, is_ran, is_too_big, run_verdict}
-use Rattle.n41_results.specs.declared.results.Res.{Res}
-use Rattle.n41_results.specs.declared.sessions.Sequenced.{Sequenced}
-use Rattle.n41_results.specs.Results.{ok}
-use Rattle.n41_once.proofs.Acts.{acts_in, no_change, reading_change, ran_value, walk_value, run_acts}
-use Rattle.n41_once.proofs.Counted.{once, Weighed, Earned, Copies, Counted, Keeps, SameCalls, keep_weighed, keep_earned}
-use Rattle.n41_once.proofs.Settled.{Settled, settled}
+use Rattle.n41_model.proofs.Slots.{Seats}
+use Rattle.n41_once.proofs.Chosen.{new_owner, owner_ready}
+use Rattle.n41_once.proofs.Ledgers.{NewLedger, SameLedger, again_moves, bare_moves, new_moves}
+use Rattle.n41_once.proofs.Moves.{PutsAgain, PutsNew, again_out, bare_on_none, bare_outs, puts_new}
+use Rattle.n41_once.proofs.Putting.{slot_is}
+use Rattle.n41_once.proofs.Puts.{NewOn}
+use Rattle.n41_once.proofs.Said.{Said}
+use Rattle.n41_once.proofs.Single.{Single, given, sid_in}
+use Rattle.n41_once.proofs.Told.{named_owner}
+use Rattle.n41_once.proofs.Lives.{Lives}
+use Rattle.n41_once.proofs.Acts.{acts_in}
+use Rattle.n41_once.proofs.Counted.{once, Counted, keep_weighed, keep_earned}
 use Rattle.n41_once.proofs.Putting.{PutsOn, again_on, new_on, used_here, used_there}
 
 -- ---- messages
@@ -97,7 +64,7 @@ again_used js c m s r p i a true e =
     subst (λ (x : ℕ). used (Put c m r ∷ js) x ≡ used js x) f g
 again_used js c m s r p i a false e = used_there js c m s r p true (again_on js r p a) e
 
-again_counted : (n : ℕ) (sizes : Sizes) (w : List Step) (c m : ℕ) (r : Request) (p : SlotUse) → Said (client w) → Counted n sizes w → PutsAgain (client w) r p → Counted n sizes (Does (Put c m r) ∷ w)
+pub again_counted : (n : ℕ) (sizes : Sizes) (w : List Step) (c m : ℕ) (r : Request) (p : SlotUse) → Said (client w) → Counted n sizes w → PutsAgain (client w) r p → Counted n sizes (Does (Put c m r) ∷ w)
 again_counted n sizes w c m r p i g a = record {
   weighed = keep_weighed n w (Does (Put c m r)) g.weighed (record {
     lasts = λ _ _. refl;
@@ -128,7 +95,7 @@ again_counted n sizes w c m r p i g a = record {
 
 -- ---- a request without a slot
 
-bare_counted : (n : ℕ) (sizes : Sizes) (w : List Step) (c m : ℕ) (r : Request) → Counted n sizes w → r.slot ≡ None → new_owner n (client w) r ≡ None → Counted n sizes (Does (Put c m r) ∷ w)
+pub bare_counted : (n : ℕ) (sizes : Sizes) (w : List Step) (c m : ℕ) (r : Request) → Counted n sizes w → r.slot ≡ None → new_owner n (client w) r ≡ None → Counted n sizes (Does (Put c m r) ∷ w)
 bare_counted n sizes w c m r g e o = record {
   weighed = keep_weighed n w (Does (Put c m r)) g.weighed (record {
     lasts = λ _ _. refl;
@@ -161,7 +128,7 @@ bare_counted n sizes w c m r g e o = record {
 
 -- ---- a new request on a slot
 
-new_counted : (u : Setup) (sizes : Sizes) (w : List Step) (c m : ℕ) (r : Request) → Seats (client w) → Single u (client w) → Said (client w) → Lives u w → Served sizes w → Counted u.callers sizes w → (a : NewOn u (client w) r) → Counted u.callers sizes (Does (Put c m r) ∷ w)
+pub new_counted : (u : Setup) (sizes : Sizes) (w : List Step) (c m : ℕ) (r : Request) → Seats (client w) → Single u (client w) → Said (client w) → Lives u w → Served sizes w → Counted u.callers sizes w → (a : NewOn u (client w) r) → Counted u.callers sizes (Does (Put c m r) ∷ w)
 new_counted u sizes w c m r z s i lv d g a = record {
   weighed = record {
     acts_is = λ q x b t st o e f h j. acts_at q x b t st o e f h j (a.place.slot == x.slot) refl;

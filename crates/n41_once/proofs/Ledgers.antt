@@ -1,21 +1,19 @@
 -- How the ledger of calls moves.
-use Rattle.std.proofs.Common.{◌≡◌, ◌≢◌, ◌⊎◌, inl, inr, ℕ, zero, suc, ◌+◌, ◌<◌, ◌≤◌, ◌==◌, Bool, true, false, ◌&&◌, ◌||◌, not, List, [], ◌∷◌, Option, Some, None, if◌then◌else◌, refl, sym, ◌∙◌, ap, subst, arith, true≢false}
+use Rattle.std.proofs.Common.{◌≡◌, ℕ, ◌==◌, Bool, true, false, ◌&&◌, not, List, [], ◌∷◌, Option, Some, None, if◌then◌else◌, refl, ◌∙◌, ap, subst, arith}
 use Rattle.std.proofs.lemmas.Bool.Decides.{nat_tests}
 use Rattle.n41_types.specs.declared.plans.Request.{Request}
 use Rattle.n41_types.specs.declared.plans.SlotUse.{SlotUse}
 use Rattle.n41_results.specs.declared.replies.Reply.{Reply}
 use Rattle.n41_journal.specs.declared.events.Event.{Event}
 use Rattle.n41_journal.specs.declared.events.Event.TheVariants.{Put, Took}
-use Rattle.n41_model.specs.declared.words.Setup.{Setup}
 use Rattle.n41_model.specs.declared.words.Verdict.{Verdict}
-use Rattle.n41_model.specs.Calls.{Call, Ledger, call, owner, ledger, chosen, in_running, is_new, is_caller, put_call, took_call, command, owner_at, slot_in}
+use Rattle.n41_model.specs.Calls.{Ledger, call, owner, ledger, is_new, is_caller, put_call, took_call, command, owner_at, slot_in}
 use Rattle.n41_model.specs.Replies.{verdict_of}
 use Rattle.n41_model.specs.Requests.{request, outs, out, knows, is_on, slot_number, moment, retried, verdict, verdict_in, verdict_on}
-use Rattle.n41_model.specs.Sessions.{phase, plan_of, plan_in}
+use Rattle.n41_model.specs.Sessions.{plan_of, plan_in}
 use Rattle.n41_once.proofs.Chosen.{new_owner}
-use Rattle.n41_once.proofs.Moves.{PutsAgain, PutsNew, TakesOn, TakesBare, again_out, again_outs, new_out, bare_outs, bare_on_none}
-use Rattle.n41_once.proofs.Putting.{itself}
-use Rattle.n41_runs.specs.Effects.{CommandName, command_on, last_of}
+use Rattle.n41_once.proofs.Moves.{PutsAgain, PutsNew, TakesOn, TakesBare, new_out, bare_on_none}
+use Rattle.n41_runs.specs.Effects.{command_on, last_of}
 
 abbrev pub slot_or : Option ℕ → ℕ
 slot_or None = 0

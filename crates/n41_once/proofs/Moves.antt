@@ -1,5 +1,5 @@
 -- What a request that is put, and a reply that is taken, make of the slots.
-use Rattle.std.proofs.Common.{◌≡◌, ◌≢◌, ◌⊎◌, inl, inr, ℕ, zero, suc, ◌+◌, ◌-◌, ◌<◌, ◌≤◌, ◌==◌, Bool, true, false, ◌&&◌, not, List, [], ◌∷◌, Option, Some, None, if◌then◌else◌, refl, sym, ◌∙◌, ap, subst, arith, true≢false}
+use Rattle.std.proofs.Common.{◌≡◌, ◌≢◌, ◌⊎◌, inl, inr, ℕ, ◌-◌, ◌==◌, Bool, true, false, ◌&&◌, List, [], ◌∷◌, Option, Some, None, if◌then◌else◌, refl, sym, ◌∙◌, ap, subst, arith}
 use Rattle.std.proofs.lemmas.Bool.Decides.{nat_tests}
 use Rattle.std.specs.Prelude.{is_some}
 use Rattle.n41_types.specs.declared.plans.Request.{Request}
@@ -9,19 +9,16 @@ use Rattle.n41_results.specs.declared.sessions.SessionMade.{SessionMade}
 use Rattle.n41_results.specs.Shapes.{shape_of}
 use Rattle.n41_journal.specs.declared.events.Event.{Event}
 use Rattle.n41_journal.specs.declared.events.Event.TheVariants.{Put, Took}
-use Rattle.n41_model.specs.declared.words.Sent.{Sent}
 use Rattle.n41_model.specs.declared.words.Sent.TheVariants.{Waits}
 use Rattle.n41_model.specs.declared.words.Setup.{Setup}
-use Rattle.n41_model.specs.declared.words.BareVerdict.{BareVerdict}
-use Rattle.n41_model.specs.Kept.{Kept, MayTake, IsAwaited, WaitsBare, WaitsOn}
-use Rattle.n41_model.specs.Replies.{is_final, gives_back, sequence_status, bare_verdict_of}
-use Rattle.n41_model.specs.Requests.{request, bares, bare, bare_waits, outs, out, used, sent, sent_after, made, session_in, bare_verdict_on, knows, is_on, is_use_of, is_bare, is_bare_use, without, joined, first, moment, slot_number}
+use Rattle.n41_model.specs.Kept.{MayTake, IsAwaited, WaitsBare, WaitsOn}
+use Rattle.n41_model.specs.Replies.{is_final, gives_back, sequence_status}
+use Rattle.n41_model.specs.Requests.{request, bares, bare, bare_waits, outs, out, used, sent, sent_after, made, knows, is_on, is_use_of, is_bare, is_bare_use, without, first, moment}
 use Rattle.n41_model.proofs.Slots.{Seats}
-use Rattle.n41_once.proofs.Lists.{has, one_on, one_bare, knows_is, without_is, first_on, first_bare}
-use Rattle.n41_once.proofs.Fresh.{Placed, Fresh, unknown_on, unknown_bare}
-use Rattle.n41_once.proofs.Known.{Known, put_out}
+use Rattle.n41_once.proofs.Lists.{has, one_on, knows_is, without_is, first_on, first_bare}
+use Rattle.n41_once.proofs.Known.{Known}
 use Rattle.n41_once.proofs.Found.{no_use, use_on, fits_xid, found_bare, found_on, only_on, not_on}
-use Rattle.n41_once.proofs.Puts.{AgainBare, AgainOn, NewBare, NewOn}
+use Rattle.n41_once.proofs.Puts.{AgainOn, NewOn}
 
 -- ---- requests on slots
 

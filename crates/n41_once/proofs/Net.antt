@@ -1,7 +1,7 @@
 -- What is under way on the connection that stands.
-use Rattle.std.proofs.Common.{◌≡◌, ◌≢◌, ◌⊎◌, inl, inr, ℕ, zero, suc, ◌+◌, ◌-◌, ◌<◌, ◌≤◌, ◌==◌, Bool, true, false, ◌&&◌, ◌||◌, not, List, [], ◌∷◌, Option, Some, None, if◌then◌else◌, refl, sym, ◌∙◌, ap, subst, arith, true≢false}
+use Rattle.std.proofs.Common.{◌≡◌, ◌≢◌, ◌⊎◌, inl, inr, ℕ, ◌<◌, ◌==◌, Bool, true, false, ◌&&◌, List, [], ◌∷◌, Option, Some, None, if◌then◌else◌, refl, sym, ◌∙◌, ap, subst, arith, true≢false}
 use Rattle.std.proofs.lemmas.Bool.Decides.{nat_tests}
-use Rattle.std.specs.Prelude.{is_none, is_some}
+use Rattle.std.specs.Prelude.{is_some}
 use Rattle.n41_types.specs.declared.plans.Plan.{Plan}
 use Rattle.n41_types.specs.declared.plans.Plan.TheVariants as plan
 use Rattle.n41_types.specs.declared.plans.Request.{Request}
@@ -17,19 +17,19 @@ use Rattle.n41_journal.specs.declared.events.Event.{Event}
 use Rattle.n41_journal.specs.declared.events.Event.TheVariants.{Began, Put, Took, CbTook, CbPut, Dialed, DialFailed, Broke, Ticked, Answered, Quit}
 use Rattle.n41_model.specs.declared.words.Sent.TheVariants.{Waits}
 use Rattle.n41_model.specs.declared.words.Setup.{Setup}
-use Rattle.n41_model.specs.Kept.{Kept, May, MayPut, MayTake}
+use Rattle.n41_model.specs.Kept.{Kept, May}
 use Rattle.n41_model.specs.Replies.{is_final, sequence_status}
-use Rattle.n41_model.specs.Requests.{request, bares, bare, bare_waits, outs, out, sent, made, is_bare, is_bare_use, is_on, standing, dials, first, sent_after, moment}
+use Rattle.n41_model.specs.Requests.{request, bares, bare, bare_waits, outs, out, sent, made, is_bare, is_bare_use, is_on, standing, first, sent_after, moment}
 use Rattle.n41_model.proofs.Slots.{Seats, seats}
 use Rattle.n41_once.proofs.Fresh.{Placed, put_placed}
 use Rattle.n41_once.proofs.Found.{no_use, not_bare}
 use Rattle.n41_once.proofs.Known.{Known, known, put_out_bare}
-use Rattle.n41_once.proofs.Lists.{has, first_bare, one_bare, without_is}
-use Rattle.n41_once.proofs.Moves.{PutsAgain, PutsNew, puts_again, puts_new, again_out, new_out, bare_outs, bare_on_none, TakesOn, TakesBare, TakesIs, takes_is, took_out, took_sent, bare_took, bare_took_sent}
-use Rattle.n41_once.proofs.Puts.{PutOf, PutIs, AgainBare, AgainOn, NewBare, NewOn, put_of}
-use Rattle.n41_once.proofs.Said.{Said, said, last_put, made_first, none_out, new_carrier}
-use Rattle.n41_once.proofs.Single.{Single, single, given, new_message}
-use Rattle.n41_runs.specs.Rules.{IsNoReply, Sizes, Allowed, LegalBy, Pending, MayBeTaken, MayRepeat, MayMakeAgain, MakesAgain}
+use Rattle.n41_once.proofs.Lists.{first_bare, one_bare, without_is}
+use Rattle.n41_once.proofs.Moves.{PutsAgain, puts_again, puts_new, again_out, new_out, bare_outs, bare_on_none, TakesOn, TakesBare, TakesIs, takes_is, took_out, took_sent, bare_took, bare_took_sent}
+use Rattle.n41_once.proofs.Puts.{PutIs, put_of}
+use Rattle.n41_once.proofs.Said.{Said, said, last_put, made_first, none_out}
+use Rattle.n41_once.proofs.Single.{Single, single}
+use Rattle.n41_runs.specs.Rules.{IsNoReply, Sizes, Allowed, LegalBy, Pending, MayBeTaken, MayRepeat, MayMakeAgain}
 use Rattle.n41_runs.specs.Steps.{Step, Does, Takes, Runs, Repeats, Refuses, Names, Makes, Binds, Ends, client, message, messages, carrier, fate, taken, ran_reply, refusal, named_reply, made_reply, bound_reply, ended_reply}
 
 -- the last message that was put without a slot

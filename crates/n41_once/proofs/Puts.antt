@@ -1,7 +1,7 @@
 -- What a request that is put is, and why it goes.
-use Rattle.std.proofs.Common.{◌≡◌, ◌≢◌, ◌⊎◌, inl, inr, ℕ, zero, suc, ◌+◌, ◌<◌, ◌≤◌, ◌==◌, Bool, true, false, ◌&&◌, not, List, [], ◌∷◌, Option, Some, None, if◌then◌else◌, refl, sym, ◌∙◌, ap, subst, arith, add-one, true≢false}
+use Rattle.std.proofs.Common.{◌≡◌, ◌≢◌, ◌⊎◌, inl, inr, ℕ, suc, ◌+◌, ◌<◌, Bool, true, false, ◌&&◌, not, List, [], Option, Some, None, refl, sym, ap, subst, arith, add-one, true≢false}
 use Rattle.std.proofs.lemmas.Bool.Decides.{nat_tests}
-use Rattle.std.specs.Prelude.{nat_le, nat_lt, is_none, is_some}
+use Rattle.std.specs.Prelude.{nat_le, nat_lt, is_some}
 use Rattle.n41_types.specs.declared.plans.Plan.{Plan}
 use Rattle.n41_types.specs.declared.plans.Plan.TheVariants as plan
 use Rattle.n41_types.specs.declared.plans.Request.{Request}
@@ -17,11 +17,11 @@ use Rattle.n41_model.specs.declared.words.Sent.{Sent}
 use Rattle.n41_model.specs.declared.words.Sent.TheVariants.{Waits}
 use Rattle.n41_model.specs.declared.words.Setup.{Setup}
 use Rattle.n41_model.specs.Answers.{round_limit}
-use Rattle.n41_model.specs.Requests.{bares, bare, bare_waits, outs, out, used, sent, moment, is_bare, standing, rounds}
+use Rattle.n41_model.specs.Requests.{bares, bare, bare_waits, outs, out, used, sent, moment, standing, rounds}
 use Rattle.n41_model.specs.Sessions.{session, slots, free_slot, is_free, is_empty, phase, put_off, passed, bound, target, highest, next_xid, completed}
 use Rattle.n41_model.specs.Calls.{plan_next, is_ready}
-use Rattle.n41_model.specs.Due.{due, item_due, only_if, with_plan, on_free, on_free_slot, slot_request, bare_with, bare_due, bare_request, goes_again, finishing, is_dead, is_running, is_session, any_waits, any_own, step_plan, own_plan, own_plan_in, destroy_plan, may_retry, may_step, may_own, may_begin, may_destroy, is_open}
-use Rattle.n41_model.proofs.Tests.{and_true, not_true, only_if_some, with_plan_some, empty_is, free_is}
+use Rattle.n41_model.specs.Due.{due, item_due, with_plan, on_free, on_free_slot, slot_request, bare_with, bare_due, bare_request, goes_again, finishing, is_dead, is_running, is_session, any_waits, any_own, step_plan, own_plan, own_plan_in, destroy_plan, may_retry, may_step, may_own, may_begin, may_destroy, is_open}
+use Rattle.n41_model.proofs.Tests.{and_true, not_true, only_if_some, empty_is, free_is}
 use Rattle.n41_once.proofs.Suits.{is_own}
 
 -- the request without a slot goes again

@@ -1,15 +1,13 @@
 -- A request is put.
-use Rattle.std.proofs.Common.{◌≡◌, ◌≢◌, ◌⊎◌, inl, inr, ℕ, zero, suc, ◌+◌, ◌<◌, ◌≤◌, ◌==◌, Bool, true, false, ◌&&◌, ◌||◌, not, List, [], ◌∷◌, Option, Some, None, if◌then◌else◌, refl, sym, ◌∙◌, ap, subst, arith, true≢false}
+use Rattle.std.proofs.Common.{◌≡◌, ◌≢◌, ◌⊎◌, inl, inr, ℕ, suc, ◌<◌, ◌≤◌, ◌==◌, Bool, true, false, List, ◌∷◌, Option, Some, None, if◌then◌else◌, refl, sym, ◌∙◌, ap, subst, arith, true≢false}
 use Rattle.std.proofs.lemmas.Bool.Decides.{nat_tests}
 use Rattle.n41_types.specs.declared.identities.SessionId.{SessionId}
 use Rattle.n41_types.specs.declared.plans.Request.{Request}
 use Rattle.n41_types.specs.declared.plans.SlotUse.{SlotUse}
 use Rattle.n41_results.specs.declared.replies.Reply.{Reply}
-use Rattle.n41_results.specs.declared.replies.ReplyBody.{ReplyBody}
 use Rattle.n41_results.specs.declared.sessions.SessionMade.{SessionMade}
 use Rattle.n41_journal.specs.declared.events.Event.{Event}
 use Rattle.n41_journal.specs.declared.events.Event.TheVariants.{Put}
-use Rattle.n41_model.specs.declared.words.Sent.{Sent}
 use Rattle.n41_model.specs.declared.words.Sent.TheVariants.{Waits}
 use Rattle.n41_model.specs.declared.words.Setup.{Setup}
 use Rattle.n41_model.specs.Due.{finishing}
@@ -20,9 +18,9 @@ use Rattle.n41_once.proofs.Lists.{first_bare}
 use Rattle.n41_once.proofs.Lives.{Lives}
 use Rattle.n41_once.proofs.Moves.{PutsAgain, PutsNew, puts_again, puts_new, again_out, new_out, bare_outs, bare_on_none}
 use Rattle.n41_once.proofs.Net.{Net, put_fresh, put_message}
-use Rattle.n41_once.proofs.Puts.{PutIs, AgainBare, AgainOn, NewBare, NewOn}
+use Rattle.n41_once.proofs.Puts.{PutIs}
 use Rattle.n41_once.proofs.Said.{Said, last_put}
-use Rattle.n41_once.proofs.Served.{Served, Says, SaysOn, IsOn, IsCopy, Ran, body_in}
+use Rattle.n41_once.proofs.Served.{Served, Says, IsCopy, Ran, body_in}
 use Rattle.n41_once.proofs.Single.{Single, given, sid_in}
 use Rattle.n41_runs.specs.Rules.{Sizes}
 use Rattle.n41_runs.specs.Server.{last, kept, alive}

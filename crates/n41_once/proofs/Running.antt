@@ -1,5 +1,5 @@
 -- A new turn runs.
-use Rattle.std.proofs.Common.{◌≡◌, ◌≢◌, ◌⊎◌, inl, inr, ℕ, zero, suc, ◌+◌, ◌<◌, ◌≤◌, ◌==◌, Bool, true, false, ◌&&◌, ◌||◌, not, List, [], ◌∷◌, Option, Some, None, if◌then◌else◌, refl, sym, ◌∙◌, ap, subst, arith, true≢false}
+use Rattle.std.proofs.Common.{◌≡◌, ◌≢◌, ◌⊎◌, inl, inr, ℕ, suc, ◌<◌, ◌≤◌, ◌==◌, Bool, true, false, ◌&&◌, List, ◌∷◌, Option, Some, None, if◌then◌else◌, refl, sym, ◌∙◌, ap, subst, arith, true≢false}
 use Rattle.std.proofs.lemmas.Bool.Decides.{nat_tests}
 use Rattle.n41_types.specs.declared.identities.SessionId.{SessionId}
 use Rattle.n41_types.specs.declared.plans.Request.{Request}
@@ -10,13 +10,12 @@ use Rattle.n41_results.specs.declared.replies.ReplyBody.{ReplyBody}
 use Rattle.n41_results.specs.declared.results.Res.{Res}
 use Rattle.n41_results.specs.declared.sessions.Sequenced.{Sequenced}
 use Rattle.n41_results.specs.Results.{ok}
-use Rattle.n41_journal.specs.declared.events.Event.{Event}
 use Rattle.n41_model.specs.declared.words.Sent.TheVariants.{Waits}
 use Rattle.n41_model.specs.declared.words.Setup.{Setup}
 use Rattle.n41_model.specs.declared.words.Verdict.{Verdict}
 use Rattle.n41_model.specs.declared.words.Verdict.TheVariants as v
-use Rattle.n41_model.specs.Replies.{verdict_of, body_verdict, is_breach}
-use Rattle.n41_model.specs.Requests.{out, outs, used, sent, retried, doubt, turn_of}
+use Rattle.n41_model.specs.Replies.{verdict_of, is_breach}
+use Rattle.n41_model.specs.Requests.{out, outs, used, sent, retried, doubt}
 use Rattle.n41_model.proofs.Slots.{Seats}
 use Rattle.n41_once.proofs.Found.{use_on}
 use Rattle.n41_once.proofs.Lists.{first_on}
@@ -25,8 +24,8 @@ use Rattle.n41_once.proofs.Served.{Served, Says, SaysOn, IsOn, IsCopy, Ran, body
 use Rattle.n41_once.proofs.Single.{Single, given, sid_in}
 use Rattle.n41_once.proofs.Suits.{session_same, session_itself}
 use Rattle.n41_once.proofs.Verdicts.{is_ran, is_dropped, is_too_big, run_verdict}
-use Rattle.n41_runs.specs.Rules.{Sizes, Allowed, Pending, MayRun, IsRun}
-use Rattle.n41_runs.specs.Server.{last, kept, alive, is_session, is_at}
+use Rattle.n41_runs.specs.Rules.{Sizes, Allowed, Pending, MayRun}
+use Rattle.n41_runs.specs.Server.{last, kept, alive, is_session}
 use Rattle.n41_runs.specs.Steps.{Step, Runs, client, message, fate, ran_reply, end_status}
 
 -- what runs is the request that is out on its slot, at the turn that was used last

@@ -1,7 +1,7 @@
 -- What a kept journal says of messages and of what is out.
-use Rattle.std.proofs.Common.{◌≡◌, ◌≢◌, ◌⊎◌, inl, inr, ℕ, zero, suc, ◌+◌, ◌-◌, ◌<◌, ◌≤◌, ◌==◌, Bool, true, false, ◌&&◌, ◌||◌, not, List, [], ◌∷◌, Option, Some, None, if◌then◌else◌, refl, sym, ◌∙◌, ap, subst, arith, true≢false}
+use Rattle.std.proofs.Common.{◌≡◌, ◌≢◌, ◌⊎◌, inl, inr, ℕ, suc, ◌-◌, ◌<◌, ◌≤◌, ◌==◌, Bool, true, false, ◌&&◌, ◌||◌, not, List, [], ◌∷◌, Option, Some, None, if◌then◌else◌, refl, sym, ◌∙◌, ap, subst, arith, true≢false}
 use Rattle.std.proofs.lemmas.Bool.Decides.{nat_tests}
-use Rattle.std.specs.Prelude.{is_none, is_some, min}
+use Rattle.std.specs.Prelude.{is_some, min}
 use Rattle.n41_types.specs.declared.plans.Request.{Request}
 use Rattle.n41_types.specs.declared.plans.SlotUse.{SlotUse}
 use Rattle.n41_types.specs.declared.statuses.Status.{Status}
@@ -12,23 +12,21 @@ use Rattle.n41_journal.specs.declared.events.Event.{Event}
 use Rattle.n41_journal.specs.declared.events.Event.TheVariants.{Began, Put, Took, CbTook, CbPut, Dialed, DialFailed, Broke, Ticked, Answered, Quit}
 use Rattle.n41_model.specs.declared.words.BareVerdict.{BareVerdict}
 use Rattle.n41_model.specs.declared.words.BareVerdict.TheVariants as b
-use Rattle.n41_model.specs.declared.words.Sent.{Sent}
 use Rattle.n41_model.specs.declared.words.Sent.TheVariants.{Never, Waits, Delayed, Unbound}
 use Rattle.n41_model.specs.declared.words.Setup.{Setup}
 use Rattle.n41_model.specs.Answers.{round_limit}
-use Rattle.n41_model.specs.Kept.{Kept, May, MayPut, MayTake}
+use Rattle.n41_model.specs.Kept.{Kept, May}
 use Rattle.n41_model.specs.Replies.{bare_verdict_of, is_final, gives_back, is_delay, is_not_bound, is_size_refusal, sequence_status, status_passes, status_refuses}
-use Rattle.n41_model.specs.Requests.{request, bares, bare, outs, out, used, sent, sent_after, made, session_in, bare_verdict, is_bare, is_bare_use, is_on, is_use_of, turn_of, standing, dials, rounds, heard, moment}
-use Rattle.n41_model.specs.Sessions.{session, slots, slots_after}
+use Rattle.n41_model.specs.Requests.{bares, outs, out, used, sent, sent_after, made, session_in, bare_verdict, is_bare, is_bare_use, is_on, standing, dials, rounds, moment}
+use Rattle.n41_model.specs.Sessions.{slots, slots_after}
 use Rattle.n41_model.proofs.Slots.{Seats, seats}
 use Rattle.n41_once.proofs.Bares.{is_create, may_be, may_be_so}
-use Rattle.n41_once.proofs.Fresh.{put_placed}
 use Rattle.n41_once.proofs.Found.{no_use, use_on}
 use Rattle.n41_once.proofs.Known.{Known, known}
 use Rattle.n41_once.proofs.Lists.{first_on, first_bare}
-use Rattle.n41_once.proofs.Moves.{PutsAgain, PutsNew, puts_again, puts_new, again_out, new_out, bare_outs, bare_on_none, TakesOn, TakesBare, TakesIs, takes_is, took_out, took_used, took_sent, bare_took, bare_took_used, bare_took_sent}
-use Rattle.n41_once.proofs.Puts.{PutOf, PutIs, AgainBare, AgainOn, NewBare, NewOn, put_of}
-use Rattle.n41_once.proofs.Single.{Single, single, given, sid_in, or_made, new_message, took_outs}
+use Rattle.n41_once.proofs.Moves.{PutsAgain, puts_again, puts_new, again_out, new_out, bare_outs, bare_on_none, TakesOn, TakesBare, TakesIs, takes_is, took_out, took_used, took_sent, bare_took, bare_took_used, bare_took_sent}
+use Rattle.n41_once.proofs.Puts.{PutOf, PutIs, NewOn, put_of}
+use Rattle.n41_once.proofs.Single.{Single, single, given, sid_in, or_made, took_outs}
 use Rattle.n41_runs.specs.Steps.{message, messages, carrier}
 
 -- the last message that was put on a slot

@@ -1,5 +1,5 @@
 -- What a legal run says of the slots of its session: what ran there, and what became of each message.
-use Rattle.std.proofs.Common.{◌≡◌, ◌≢◌, ◌⊎◌, inl, inr, ℕ, zero, suc, ◌+◌, ◌-◌, ◌<◌, ◌≤◌, ◌==◌, Bool, true, false, ◌&&◌, ◌||◌, not, List, [], ◌∷◌, Option, Some, None, if◌then◌else◌, refl, sym, ◌∙◌, ap, subst, arith, true≢false}
+use Rattle.std.proofs.Common.{◌≡◌, ◌≢◌, ◌⊎◌, inl, inr, ℕ, suc, ◌<◌, ◌≤◌, ◌==◌, Bool, true, false, List, ◌∷◌, Option, Some, None, if◌then◌else◌, refl, sym, ◌∙◌, ap, subst, arith, true≢false}
 use Rattle.std.proofs.lemmas.Bool.Decides.{nat_tests}
 use Rattle.n41_types.specs.declared.identities.SessionId.{SessionId}
 use Rattle.n41_types.specs.declared.plans.Class.TheVariants.{Reading}
@@ -14,15 +14,13 @@ use Rattle.n41_model.specs.declared.words.Sent.TheVariants.{Waits}
 use Rattle.n41_model.specs.declared.words.Setup.{Setup}
 use Rattle.n41_model.specs.Replies.{verdict_of, body_verdict, is_breach}
 use Rattle.n41_model.specs.Requests.{out, used, sent, retried, doubt}
-use Rattle.n41_once.proofs.Found.{use_on}
-use Rattle.n41_once.proofs.Lists.{first_on}
-use Rattle.n41_once.proofs.Net.{Net, Serves}
-use Rattle.n41_once.proofs.Said.{Said, last_put}
+use Rattle.n41_once.proofs.Net.{Serves}
+use Rattle.n41_once.proofs.Said.{last_put}
 use Rattle.n41_once.proofs.Single.{Single, given, sid_in}
 use Rattle.n41_once.proofs.Verdicts.{is_ran, is_dropped, is_too_big}
-use Rattle.n41_runs.specs.Rules.{Sizes, Pending}
+use Rattle.n41_runs.specs.Rules.{Sizes}
 use Rattle.n41_runs.specs.Server.{last, kept, alive}
-use Rattle.n41_runs.specs.Steps.{Step, client, message, messages, fate}
+use Rattle.n41_runs.specs.Steps.{Step, client, message, fate}
 
 -- the request is out on its slot
 pub record IsOn (js : List Event) (r : Request) (p : SlotUse) : Type 0 where

@@ -1,52 +1,34 @@
 -- What the answers to commands say of the requests that are out.
-use Rattle.n41_runs.specs.Effects.{CommandName, is_named, asked, command_on, last_of, change_of}
-use Rattle.std.proofs.Common.{◌≡◌, ◌≢◌, ◌⊎◌, inl, inr, ℕ, zero, suc, ◌+◌, ◌-◌, ◌<◌, ◌≤◌, ◌==◌, Bool, true, false, ◌&&◌, ◌||◌, not, List, [], ◌∷◌, length, Option, Some, None, if◌then◌else◌, refl, sym, ◌∙◌, ap, subst, arith, true≢false}
+use Rattle.n41_runs.specs.Effects.{CommandName, is_named, command_on, last_of, change_of}
+use Rattle.std.proofs.Common.{◌≡◌, ◌≢◌, inl, inr, ℕ, suc, ◌<◌, ◌≤◌, ◌==◌, Bool, true, false, ◌&&◌, ◌||◌, List, [], ◌∷◌, Option, Some, None, if◌then◌else◌, refl, sym, ◌∙◌, ap, subst, arith, true≢false}
 use Rattle.std.proofs.lemmas.Bool.Decides.{nat_tests}
-use Rattle.std.specs.Prelude.{is_some, nat_le, IsSome}
 use Rattle.n41_types.specs.declared.commands.Answer.{Answer}
 use Rattle.n41_types.specs.declared.commands.Answer.TheVariants as says
 use Rattle.n41_types.specs.declared.commands.Command.{Command}
-use Rattle.n41_types.specs.declared.commands.Command.TheVariants as asks
-use Rattle.n41_types.specs.declared.plans.Plan.{Plan}
-use Rattle.n41_types.specs.declared.plans.Plan.TheVariants as plan
 use Rattle.n41_types.specs.declared.plans.Request.{Request}
-use Rattle.n41_types.specs.declared.plans.SlotUse.{SlotUse}
 use Rattle.n41_types.specs.Plans.{class_of}
 use Rattle.n41_results.specs.declared.replies.Reply.{Reply}
-use Rattle.n41_results.specs.declared.sessions.SessionMade.{SessionMade}
 use Rattle.n41_journal.specs.declared.events.Event.{Event}
 use Rattle.n41_journal.specs.declared.events.Cause.{Cause}
 use Rattle.n41_journal.specs.declared.events.Event.TheVariants.{Began, Put, Took, CbTook, CbPut, Dialed, DialFailed, Broke, Ticked, Answered, Quit}
-use Rattle.n41_model.specs.declared.words.BareVerdict.{BareVerdict}
-use Rattle.n41_model.specs.declared.words.BareVerdict.TheVariants as b
-use Rattle.n41_model.specs.declared.words.KnownClient.{KnownClient}
-use Rattle.n41_model.specs.declared.words.Phase.{Phase}
-use Rattle.n41_model.specs.declared.words.Phase.TheVariants.{Down, Binding, Session, ClientId, Running, Dead}
 use Rattle.n41_model.specs.declared.words.Setup.{Setup}
-use Rattle.n41_model.specs.declared.words.Verdict.{Verdict}
-use Rattle.n41_model.specs.declared.words.Verdict.TheVariants as v
-use Rattle.n41_model.specs.Answers.{round_limit, breach_at, place_or, breaks, HasCause}
-use Rattle.n41_model.specs.Calls.{Call, call, owner, command, number, put_call, took_call, answered_call, fresh_call, is_caller, given, either, way_of, pause_given, began_on, is_plan, in_running, chosen, ledger}
-use Rattle.n41_model.specs.Due.{is_dead, phase_plan, bind_in, create_in, destroy_in, step_plan, destroy_plan}
+use Rattle.n41_model.specs.Answers.{round_limit, HasCause}
+use Rattle.n41_model.specs.Calls.{call, owner, command, number}
 use Rattle.n41_model.specs.Kept.{Kept, May, MayBegin, MayAnswer}
-use Rattle.n41_model.specs.Replies.{is_final, is_breach, is_bare_breach, verdict_of}
-use Rattle.n41_model.specs.Requests.{bares, bare, bare_waits, made, first, out, rounds, heard, moment, verdict, bare_verdict, retried, is_bare, is_bare_use, standing}
-use Rattle.n41_model.specs.Sessions.{phase, phases, took_phase, slot_phase, bare_phase, dialed_phase, broke_phase, plan_of, session, client}
+use Rattle.n41_model.specs.Requests.{bares, first, out, rounds, heard}
 use Rattle.n41_model.proofs.Slots.{Seats, seats}
-use Rattle.n41_once.proofs.Chosen.{IsReady, Wants, new_owner, owner_ready, wants_chosen, bare_owner}
-use Rattle.n41_once.proofs.Fresh.{Placed, put_placed}
+use Rattle.n41_once.proofs.Chosen.{new_owner, owner_ready, bare_owner}
 use Rattle.n41_once.proofs.Found.{no_use}
-use Rattle.n41_once.proofs.Known.{Known, known, put_out_bare}
-use Rattle.n41_once.proofs.Ledgers.{NewLedger, SameLedger, held, new_moves, again_moves, bare_moves, took_call_on, took_call_bare}
+use Rattle.n41_once.proofs.Known.{Known, known}
+use Rattle.n41_once.proofs.Ledgers.{NewLedger, new_moves, again_moves, bare_moves}
 use Rattle.n41_once.proofs.Lists.{first_bare}
-use Rattle.n41_once.proofs.Moves.{PutsAgain, PutsNew, puts_again, puts_new, again_out, bare_outs, TakesOn, TakesBare, TakesIs, takes_is, took_out, bare_took}
-use Rattle.n41_once.proofs.Putting.{slot_is, itself}
-use Rattle.n41_once.proofs.Puts.{PutOf, PutIs, AgainBare, AgainOn, NewBare, NewOn, ByStep, ByEnd, ForCaller, put_of}
-use Rattle.n41_once.proofs.Said.{Said, said, none_out, made_first}
-use Rattle.n41_once.proofs.Single.{Single, single, took_outs, took_bares}
-use Rattle.n41_once.proofs.Suits.{Suits, is_own, is_pause, is_bare_class, own_change, plan_itself}
+use Rattle.n41_once.proofs.Moves.{puts_again, puts_new, again_out, bare_outs, TakesIs, takes_is}
+use Rattle.n41_once.proofs.Puts.{PutOf, PutIs, NewOn, put_of}
+use Rattle.n41_once.proofs.Said.{Said, said}
+use Rattle.n41_once.proofs.Single.{took_outs}
+use Rattle.n41_once.proofs.Suits.{is_bare_class}
 use Rattle.n41_once.proofs.Telling.{Waiting, waiting, new_class, is_given, given_idle, given_is, some_command, heard_zero}
-use Rattle.n41_once.proofs.Told.{Told, GoesOn, Named, caller_of, named_is, is_so_named}
+use Rattle.n41_once.proofs.Told.{Told, caller_of, named_is}
 use Rattle.n41_model.specs.Answers.{UnknownCause, UnreachableCause}
 use Rattle.n41_model.specs.Text.{answer_to}
 use Rattle.n41_model.specs.declared.words.Sent.{Sent}
@@ -54,7 +36,7 @@ use Rattle.n41_model.specs.declared.words.Sent.TheVariants.{Never, Waits, Delaye
 use Rattle.n41_model.specs.Requests.{doubt, sent, is_waiting}
 use Rattle.n41_once.proofs.Suits.{change_class}
 use Rattle.n41_once.proofs.Telling.{told}
-use Rattle.n41_runs.specs.Good.{IsUnknown, is_undone}
+use Rattle.n41_runs.specs.Good.{IsUnknown}
 
 -- the answers that are given in runs without opens
 abbrev pub is_possible : Answer → Bool

@@ -1,5 +1,5 @@
 -- A kept journal has one session, and what has a slot names it.
-use Rattle.std.proofs.Common.{◌≡◌, ◌≢◌, ◌⊎◌, inl, inr, ℕ, zero, suc, ◌+◌, ◌<◌, ◌≤◌, ◌==◌, Bool, true, false, ◌&&◌, ◌||◌, not, List, [], ◌∷◌, Option, Some, None, if◌then◌else◌, refl, sym, ◌∙◌, ap, subst, arith, true≢false}
+use Rattle.std.proofs.Common.{◌≡◌, ◌≢◌, ◌⊎◌, inl, inr, ℕ, zero, suc, ◌<◌, ◌==◌, Bool, true, false, ◌&&◌, List, [], ◌∷◌, Option, Some, None, if◌then◌else◌, refl, sym, ◌∙◌, ap, subst, arith, true≢false}
 use Rattle.std.proofs.lemmas.Bool.Decides.{nat_tests}
 use Rattle.std.specs.Prelude.{is_none, is_some}
 use Rattle.n41_types.specs.declared.commands.Command.{Command}
@@ -17,15 +17,15 @@ use Rattle.n41_model.specs.declared.words.BareVerdict.{BareVerdict}
 use Rattle.n41_model.specs.declared.words.BareVerdict.TheVariants as b
 use Rattle.n41_model.specs.declared.words.KnownClient.{KnownClient}
 use Rattle.n41_model.specs.declared.words.Phase.{Phase}
-use Rattle.n41_model.specs.declared.words.Phase.TheVariants.{Down, Binding, Session, ClientId, Settling, Reclaiming, Completing, Running, Dead}
+use Rattle.n41_model.specs.declared.words.Phase.TheVariants.{Down, Binding, Session, ClientId, Running, Dead}
 use Rattle.n41_model.specs.declared.words.Setup.{Setup}
 use Rattle.n41_model.specs.declared.words.Verdict.{Verdict}
 use Rattle.n41_model.specs.declared.words.Verdict.TheVariants as v
 use Rattle.n41_model.specs.Calls.{command, all_answered}
-use Rattle.n41_model.specs.Due.{finishing, step_plan, phase_plan, bind_in, create_in, destroy_plan, destroy_in}
+use Rattle.n41_model.specs.Due.{finishing, phase_plan, bind_in, create_in, destroy_in}
 use Rattle.n41_model.specs.Kept.{Kept, May}
 use Rattle.n41_model.specs.Replies.{bare_verdict_of, is_final}
-use Rattle.n41_model.specs.Requests.{request, bares, bare, out, made, session_in, bare_verdict, bare_verdict_on, verdict, verdict_in, verdict_on, quit, is_bare, is_bare_use, without, first}
+use Rattle.n41_model.specs.Requests.{bares, bare, out, made, session_in, bare_verdict, verdict, quit, is_bare, is_bare_use, first}
 use Rattle.n41_model.specs.Sessions.{session, session_after, client, phase, phases, plan_of, took_phase, slot_phase, bare_phase, worked, dialed_phase, broke_phase, is_lease_time}
 use Rattle.n41_model.proofs.Slots.{Seats, seats}
 use Rattle.n41_once.proofs.Bares.{is_exchange, is_create, is_end, may_be, may_be_so}
@@ -33,9 +33,8 @@ use Rattle.n41_once.proofs.Fresh.{Placed, put_placed}
 use Rattle.n41_once.proofs.Found.{no_use, fits_xid}
 use Rattle.n41_once.proofs.Known.{Known, known, put_out_bare}
 use Rattle.n41_once.proofs.Lists.{has, one_bare, without_is, first_bare}
-use Rattle.n41_once.proofs.Moves.{PutsAgain, PutsNew, puts_again, puts_new, again_out, new_out, bare_outs, bare_took, took_out, TakesOn, TakesBare, TakesIs, takes_is}
-use Rattle.n41_once.proofs.Puts.{PutOf, PutIs, AgainBare, AgainOn, NewBare, NewOn, ByStep, ByEnd, put_of}
-use Rattle.n41_runs.specs.Server.{is_end_of}
+use Rattle.n41_once.proofs.Moves.{PutsAgain, puts_again, puts_new, again_out, new_out, bare_outs, bare_took, took_out, TakesBare, TakesIs, takes_is}
+use Rattle.n41_once.proofs.Puts.{PutIs, AgainBare, NewBare, NewOn, ByStep, ByEnd, put_of}
 use Rattle.n41_runs.specs.Steps.{message, messages}
 
 -- ---- the session that was made last

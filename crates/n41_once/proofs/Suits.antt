@@ -1,17 +1,15 @@
 -- What plans tell, and which of them commands ask for.
-use Rattle.std.proofs.Common.{◌≡◌, ◌≢◌, ◌⊎◌, inl, inr, ℕ, zero, suc, ◌<◌, ◌≤◌, Bool, true, false, ◌&&◌, List, [], ◌∷◌, Option, Some, None, if◌then◌else◌, refl, sym, ◌∙◌, ap, subst, arith, true≢false}
+use Rattle.std.proofs.Common.{◌≡◌, ◌≢◌, ℕ, zero, suc, Bool, true, false, List, [], ◌∷◌, Option, Some, None, refl, sym, ◌∙◌, ap, true≢false}
 use Rattle.std.specs.Prelude.{drop}
 use Rattle.std.specs.Cmp.Lexicographic.{bytes_decides}
-use Rattle.std.proofs.lemmas.Bool.Decides.{nat_tests}
 use Rattle.n41_types.specs.declared.commands.Command.{Command}
 use Rattle.n41_types.specs.declared.commands.Command.TheVariants as asks
 use Rattle.n41_types.specs.declared.identities.SessionId.{SessionId}
 use Rattle.n41_types.specs.declared.plans.Class.{Class}
-use Rattle.n41_types.specs.declared.plans.Class.TheVariants.{Bare, Reading, State, Changing}
+use Rattle.n41_types.specs.declared.plans.Class.TheVariants.{Bare, Reading, Changing}
 use Rattle.n41_types.specs.declared.plans.Place.{Place}
 use Rattle.n41_types.specs.declared.plans.Plan.{Plan}
 use Rattle.n41_types.specs.declared.plans.Plan.TheVariants as plan
-use Rattle.n41_types.specs.declared.operations.Operation.{Operation}
 use Rattle.n41_types.specs.contracts.identities.SessionIdEq.TheImpl.Laws.{laws-law as session-id-law}
 use Rattle.n41_types.specs.contracts.plans.PlanEq.TheImpl.Laws.{laws-law as plan-law}
 use Rattle.n41_types.specs.contracts.plans.PlanPartialEq.TheImpl as plans

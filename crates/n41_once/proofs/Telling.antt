@@ -1,7 +1,7 @@
 -- Whose each request is, event by event.
-use Rattle.std.proofs.Common.{◌≡◌, ◌≢◌, ◌⊎◌, inl, inr, ℕ, zero, suc, ◌+◌, ◌-◌, ◌<◌, ◌≤◌, ◌==◌, Bool, true, false, ◌&&◌, ◌||◌, not, List, [], ◌∷◌, length, Option, Some, None, if◌then◌else◌, refl, sym, ◌∙◌, ap, subst, arith, true≢false}
+use Rattle.std.proofs.Common.{◌≡◌, ◌≢◌, ◌⊎◌, inl, inr, ℕ, suc, ◌<◌, ◌≤◌, ◌==◌, Bool, true, false, ◌&&◌, List, [], ◌∷◌, length, Option, Some, None, if◌then◌else◌, refl, sym, ◌∙◌, ap, subst, arith, true≢false}
 use Rattle.std.proofs.lemmas.Bool.Decides.{nat_tests}
-use Rattle.std.specs.Prelude.{is_some, nat_le, IsSome}
+use Rattle.std.specs.Prelude.{is_some, IsSome}
 use Rattle.n41_types.specs.declared.commands.Answer.{Answer}
 use Rattle.n41_types.specs.declared.commands.Answer.TheVariants as says
 use Rattle.n41_types.specs.declared.commands.Command.{Command}
@@ -14,38 +14,37 @@ use Rattle.n41_types.specs.Plans.{class_of}
 use Rattle.n41_results.specs.declared.replies.Reply.{Reply}
 use Rattle.n41_results.specs.declared.sessions.SessionMade.{SessionMade}
 use Rattle.n41_journal.specs.declared.events.Event.{Event}
-use Rattle.n41_journal.specs.declared.events.Cause.{Cause}
 use Rattle.n41_journal.specs.declared.events.Event.TheVariants.{Began, Put, Took, CbTook, CbPut, Dialed, DialFailed, Broke, Ticked, Answered, Quit}
 use Rattle.n41_model.specs.declared.words.BareVerdict.{BareVerdict}
 use Rattle.n41_model.specs.declared.words.BareVerdict.TheVariants as b
 use Rattle.n41_model.specs.declared.words.KnownClient.{KnownClient}
 use Rattle.n41_model.specs.declared.words.Phase.{Phase}
-use Rattle.n41_model.specs.declared.words.Phase.TheVariants.{Down, Binding, Session, ClientId, Running, Dead}
+use Rattle.n41_model.specs.declared.words.Phase.TheVariants.{Binding, Session, ClientId, Dead}
 use Rattle.n41_model.specs.declared.words.Setup.{Setup}
 use Rattle.n41_model.specs.declared.words.Verdict.{Verdict}
 use Rattle.n41_model.specs.declared.words.Verdict.TheVariants as v
 use Rattle.n41_model.specs.Answers.{round_limit, breach_at, place_or, breaks, HasCause}
-use Rattle.n41_model.specs.Calls.{Call, call, owner, command, number, put_call, took_call, answered_call, fresh_call, is_caller, given, either, way_of, pause_given, began_on, is_plan, in_running, chosen, ledger}
-use Rattle.n41_model.specs.Due.{is_dead, phase_plan, bind_in, create_in, destroy_in, step_plan, destroy_plan}
+use Rattle.n41_model.specs.Calls.{Call, call, owner, command, number, took_call, answered_call, fresh_call, is_caller, given, either, way_of, pause_given, began_on}
+use Rattle.n41_model.specs.Due.{is_dead, phase_plan, bind_in, create_in, destroy_in}
 use Rattle.n41_model.specs.Kept.{Kept, May, MayBegin, MayAnswer}
 use Rattle.n41_model.specs.Replies.{is_final, is_breach, is_bare_breach, verdict_of}
 use Rattle.n41_model.specs.Requests.{bares, bare, bare_waits, made, first, out, rounds, heard, moment, verdict, bare_verdict, retried, is_bare, is_bare_use, standing}
 use Rattle.n41_model.specs.Sessions.{phase, phases, took_phase, slot_phase, bare_phase, dialed_phase, broke_phase, plan_of, session, client}
 use Rattle.n41_model.proofs.Slots.{Seats, seats}
-use Rattle.n41_once.proofs.Chosen.{IsReady, Wants, new_owner, owner_ready, wants_chosen, bare_owner}
+use Rattle.n41_once.proofs.Chosen.{bare_owner}
 use Rattle.n41_once.proofs.Fresh.{Placed, put_placed}
 use Rattle.n41_once.proofs.Found.{no_use}
 use Rattle.n41_once.proofs.Known.{Known, known, put_out_bare}
-use Rattle.n41_once.proofs.Ledgers.{NewLedger, SameLedger, held, new_moves, again_moves, bare_moves, took_call_on, took_call_bare}
+use Rattle.n41_once.proofs.Ledgers.{held, again_moves, bare_moves, took_call_on, took_call_bare}
 use Rattle.n41_once.proofs.Lists.{first_bare}
-use Rattle.n41_once.proofs.Moves.{PutsAgain, PutsNew, puts_again, puts_new, again_out, bare_outs, TakesOn, TakesBare, TakesIs, takes_is, took_out, bare_took}
-use Rattle.n41_once.proofs.Putting.{slot_is, itself}
-use Rattle.n41_once.proofs.Puts.{PutOf, PutIs, AgainBare, AgainOn, NewBare, NewOn, ByStep, ByEnd, ForCaller, put_of}
+use Rattle.n41_once.proofs.Moves.{PutsAgain, puts_again, again_out, bare_outs, TakesOn, TakesBare, TakesIs, takes_is, took_out, bare_took}
+use Rattle.n41_once.proofs.Putting.{slot_is}
+use Rattle.n41_once.proofs.Puts.{PutOf, PutIs, ByStep, ByEnd, put_of}
 use Rattle.n41_once.proofs.Said.{Said, said, none_out, made_first}
 use Rattle.n41_once.proofs.Single.{Single, single, took_outs, took_bares}
-use Rattle.n41_once.proofs.Suits.{Suits, is_own, is_pause, is_bare_class, own_change, plan_itself}
-use Rattle.n41_runs.specs.Effects.{CommandName, is_named, asked, command_on, last_of, change_of}
-use Rattle.n41_once.proofs.Told.{Told, GoesOn, SameFacts, Named, caller_of, named_is, is_so_named, same_told, new_told}
+use Rattle.n41_once.proofs.Suits.{Suits, is_pause, is_bare_class}
+use Rattle.n41_runs.specs.Effects.{CommandName, is_named, asked, command_on}
+use Rattle.n41_once.proofs.Told.{Told, GoesOn, SameFacts, caller_of, named_is, is_so_named, same_told, new_told}
 
 -- ---- a reply to a request on a slot
 

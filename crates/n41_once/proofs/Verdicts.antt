@@ -1,5 +1,5 @@
 -- The verdicts of what a server answers to a request with a slot.
-use Rattle.std.proofs.Common.{◌≡◌, ◌≢◌, ◌⊎◌, inl, inr, ℕ, ◌==◌, Bool, true, false, ◌&&◌, ◌||◌, not, List, [], ◌∷◌, Option, Some, None, Ok, Err, if◌then◌else◌, refl, sym, ◌∙◌, ap, subst, arith, true≢false}
+use Rattle.std.proofs.Common.{◌≡◌, Bool, true, false, ◌&&◌, ◌||◌, not, List, [], ◌∷◌, Some, Ok, Err, if◌then◌else◌, refl, sym, ap, arith, true≢false}
 use Rattle.std.proofs.lemmas.Bool.Decides.{nat_tests}
 use Rattle.n41_types.specs.declared.plans.Class.{Class}
 use Rattle.n41_types.specs.declared.plans.Class.TheVariants.{Reading}
@@ -17,8 +17,8 @@ use Rattle.n41_results.specs.declared.sessions.Sequenced.{Sequenced}
 use Rattle.n41_results.specs.Results.{ok, status_of}
 use Rattle.n41_model.specs.declared.words.Verdict.{Verdict}
 use Rattle.n41_model.specs.declared.words.Verdict.TheVariants as v
-use Rattle.n41_model.specs.Replies.{is_ok, is_delay, is_not_bound, is_uncached, is_size_refusal, is_reading, is_final, gives_back, is_breach, repeats, has_its_answer, uncached_verdict, ran_verdict, sequenced_verdict, refused_verdict, body_verdict, verdict_of, sequence_status, status_passes, status_refuses}
-use Rattle.n41_runs.specs.Rules.{IsRun, is_uncached_body, is_gone, is_bad_slot, is_misordered}
+use Rattle.n41_model.specs.Replies.{is_ok, is_delay, is_not_bound, is_uncached, is_size_refusal, is_reading, is_final, gives_back, repeats, has_its_answer, uncached_verdict, ran_verdict, sequenced_verdict, refused_verdict, body_verdict, verdict_of, sequence_status, status_passes, status_refuses}
+use Rattle.n41_runs.specs.Rules.{IsRun, is_uncached_body, is_gone}
 use Rattle.n41_runs.specs.Steps.{ran_reply, end_status, refusal}
 
 -- ---- kinds of verdicts

@@ -1,12 +1,11 @@
 -- How often each command took effect: replies, answers and runs.
-use Rattle.std.proofs.Common.{Bool, List, None, Option, Some, [], ap, arith, false, if◌then◌else◌, inl, inr, length, not, refl, subst, suc, sym, true, true≢false, zero, ℕ, ◌&&◌, ◌+◌, ◌-◌, ◌<◌, ◌==◌, ◌||◌, ◌∙◌, ◌∷◌, ◌≡◌, ◌≢◌, ◌≤◌, ◌⊎◌}
+use Rattle.std.proofs.Common.{Bool, List, None, Option, Some, [], ap, arith, false, if◌then◌else◌, inl, inr, refl, subst, sym, true, true≢false, ℕ, ◌&&◌, ◌<◌, ◌==◌, ◌∙◌, ◌∷◌, ◌≡◌, ◌≢◌, ◌≤◌, ◌⊎◌}
 use Rattle.std.proofs.lemmas.Bool.Decides.{nat_tests}
-use Rattle.std.specs.Prelude.{All, IsSome, is_some, nat_le}
+use Rattle.std.specs.Prelude.{is_some}
 use Rattle.n41_types.specs.declared.commands.Answer.{Answer}
 use Rattle.n41_types.specs.declared.commands.Answer.TheVariants as says
 use Rattle.n41_types.specs.declared.commands.Command.{Command}
 use Rattle.n41_types.specs.declared.commands.Value.{Value}
-use Rattle.n41_types.specs.declared.identities.SessionId.{SessionId}
 use Rattle.n41_types.specs.declared.plans.Request.{Request}
 use Rattle.n41_types.specs.declared.plans.SlotUse.{SlotUse}
 use Rattle.n41_types.specs.declared.statuses.Status.{Status}
@@ -14,64 +13,36 @@ use Rattle.n41_results.specs.declared.replies.ReplyBody.{ReplyBody}
 use Rattle.n41_journal.specs.declared.events.Event.{Event}
 use Rattle.n41_model.specs.declared.words.Verdict.{Verdict}
 use Rattle.n41_model.specs.declared.words.Verdict.TheVariants as v
-use Rattle.n41_model.specs.Calls.{Call, answered_call, began_on, call, chosen, command, either, fresh_call, given as given_answer, in_running, is_caller, is_plan, ledger, number, owner, pause_given, put_call, took_call, way_of, answer_in, done_with, value_of, is_again}
-use Rattle.n41_model.specs.Replies.{body_verdict, gives_back, is_bare_breach, is_breach, is_final, is_ok, sequence_status, verdict_of}
-use Rattle.n41_model.specs.Requests.{slot_number, bare, bare_verdict, bare_waits, bares, doubt, first, heard, is_bare, is_bare_use, is_on, is_waiting, knows, made, moment, out, outs, retried, rounds, sent, sent_after, standing, turn_of, used, verdict}
-use Rattle.n41_model.specs.Text.{answer_to}
+use Rattle.n41_model.specs.Calls.{Call, call, command, is_caller, number, owner, answer_in, done_with, value_of, is_again}
+use Rattle.n41_model.specs.Replies.{gives_back, is_breach, is_final, is_ok, verdict_of}
+use Rattle.n41_model.specs.Requests.{made, out, retried, used}
 use Rattle.n41_once.proofs.Acts.{acts_in}
-use Rattle.n41_once.proofs.Served.{IsCopy, IsOn, Ran, Says, SaysOn, Served, body_in}
-use Rattle.n41_once.proofs.Suits.{Suits, change_class, is_bare_class, is_dir_change, is_own, is_pause, own_change, plan_itself, session_itself, session_same, is_walk}
-use Rattle.n41_once.proofs.Telling.{Waiting, given_idle, given_is, heard_zero, is_given, new_class, some_command, told, waiting, took_one}
-use Rattle.n41_runs.specs.Effects.{command_at, CommandName, Effect, asked, change_of, command_of, command_on, count_of, effects, effects_of, is_changing, is_named, last_of}
-use Rattle.n41_runs.specs.Good.{IsUnknown, is_undone}
-use Rattle.n41_runs.specs.Rules.{Allowed, IsNoReply, IsRun, LegalBy, MayBeTaken, MayRun, Pending, Sizes}
-use Rattle.n41_runs.specs.Server.{alive, is_at, is_session, kept, last}
-use Rattle.n41_runs.specs.Steps.{Binds, Does, Ends, Makes, Names, Refuses, Repeats, Runs, Step, Takes, carrier, client, end_status, fate, message, messages, ran_reply}
-use Rattle.n41_types.specs.declared.commands.Command.TheVariants as asks
+use Rattle.n41_once.proofs.Served.{IsCopy, IsOn, Ran, SaysOn, Served}
+use Rattle.n41_once.proofs.Suits.{Suits, change_class, is_dir_change, is_walk}
+use Rattle.n41_once.proofs.Telling.{is_given, took_one}
+use Rattle.n41_runs.specs.Effects.{change_of, command_of, command_on, effects_of, is_changing, is_named}
+use Rattle.n41_runs.specs.Rules.{MayBeTaken, Sizes}
+use Rattle.n41_runs.specs.Server.{alive, kept, last}
+use Rattle.n41_runs.specs.Steps.{Step, Takes, client, fate, message}
 use Rattle.n41_types.specs.declared.plans.Plan.{Plan}
-use Rattle.n41_types.specs.declared.plans.Plan.TheVariants as plan
 use Rattle.n41_types.specs.Plans.{class_of}
 use Rattle.n41_results.specs.declared.replies.Reply.{Reply}
 use Rattle.n41_results.specs.declared.sessions.SessionMade.{SessionMade}
-use Rattle.n41_journal.specs.declared.events.Cause.{Cause}
 use Rattle.n41_journal.specs.declared.events.Event.TheVariants.{Answered, Began, Broke, CbPut, CbTook, DialFailed, Dialed, Put, Quit, Ticked, Took}
-use Rattle.n41_model.specs.declared.words.BareVerdict.{BareVerdict}
-use Rattle.n41_model.specs.declared.words.BareVerdict.TheVariants as b
-use Rattle.n41_model.specs.declared.words.KnownClient.{KnownClient}
-use Rattle.n41_model.specs.declared.words.Phase.{Phase}
-use Rattle.n41_model.specs.declared.words.Phase.TheVariants.{Binding, ClientId, Dead, Down, Running, Session}
 use Rattle.n41_model.specs.declared.words.Setup.{Setup}
-use Rattle.n41_model.specs.Answers.{HasCause, UnknownCause, UnreachableCause, breach_at, breaks, place_or, round_limit}
-use Rattle.n41_model.specs.Due.{bind_in, create_in, destroy_in, destroy_plan, finishing, is_dead, phase_plan, step_plan}
-use Rattle.n41_model.specs.Kept.{Kept, May, MayAnswer, MayBegin}
-use Rattle.n41_model.specs.Sessions.{bare_phase, broke_phase, dialed_phase, phase, phases, plan_of, session, slot_phase, took_phase}
-use Rattle.n41_model.proofs.Slots.{Seats, seats}
-use Rattle.n41_once.proofs.Chosen.{IsReady, Wants, bare_owner, new_owner, owner_ready, wants_chosen}
-use Rattle.n41_once.proofs.Fresh.{Placed, put_placed}
-use Rattle.n41_once.proofs.Found.{no_use, use_on}
-use Rattle.n41_once.proofs.Known.{Known, known, put_out_bare}
-use Rattle.n41_once.proofs.Ledgers.{NewLedger, SameLedger, again_moves, bare_moves, held, new_moves, took_call_bare, took_call_on}
-use Rattle.n41_once.proofs.Lists.{first_bare, first_on}
-use Rattle.n41_once.proofs.Moves.{PutsAgain, PutsNew, TakesBare, TakesIs, TakesOn, again_out, bare_on_none, bare_outs, bare_took, bare_took_sent, bare_took_used, new_out, puts_again, puts_new, takes_is, took_out, took_sent, took_used}
-use Rattle.n41_once.proofs.Putting.{SameSlot, Slot, itself, puts_served, slot_is, slot_of, slot_same}
-use Rattle.n41_once.proofs.Puts.{AgainBare, AgainOn, ByEnd, ByStep, ForCaller, NewBare, NewOn, PutIs, PutOf, put_of}
-use Rattle.n41_once.proofs.Said.{stays, used_kept, Said, gives_final, last_put, made_first, none_out, said, sent_after_not}
-use Rattle.n41_once.proofs.Single.{Single, given, or_made, sid_in, single, took_bares, took_outs, finishing_answered}
-use Rattle.n41_once.proofs.Told.{named_owner, GoesOn, Named, SameFacts, Told, caller_of, is_so_named, named_is, new_told, same_told, caller_is}
-use Rattle.n41_model.specs.declared.words.Sent.{Sent}
-use Rattle.n41_model.specs.declared.words.Sent.TheVariants.{Delayed, Never, Unbound, Waits}
-use Rattle.n41_once.proofs.Lives.{Lives, lives}
-use Rattle.n41_once.proofs.Net.{Net, TakenIs, net, put_fresh, put_message, taken_is}
-use Rattle.n41_once.proofs.Answering.{binds_served, ends_served, makes_served, names_served, refuses_served, repeats_served}
-use Rattle.n41_once.proofs.Running.{runs_served}
-use Rattle.n41_once.proofs.Verdicts.{ends, final_is, gives_is, is_dropped, is_ran, is_too_big, run_verdict}
-use Rattle.n41_results.specs.declared.results.Res.{Res}
-use Rattle.n41_results.specs.declared.sessions.Sequenced.{Sequenced}
-use Rattle.n41_results.specs.Results.{ok}
-use Rattle.n41_once.proofs.Acts.{acts_in, no_change, reading_change, ran_value, walk_value, run_acts}
-use Rattle.n41_once.proofs.Counted.{once, Weighed, Earned, Copies, Counted, Keeps, SameCalls, keep_weighed, keep_earned}
-use Rattle.n41_once.proofs.Settled.{Settled, settled}
-use Rattle.n41_once.proofs.Putting.{PutsOn, again_on, new_on, used_here, used_there}
+use Rattle.n41_model.specs.Due.{finishing}
+use Rattle.n41_model.specs.Kept.{Kept}
+use Rattle.n41_model.proofs.Slots.{Seats}
+use Rattle.n41_once.proofs.Ledgers.{took_call_bare, took_call_on}
+use Rattle.n41_once.proofs.Moves.{TakesOn, bare_took, bare_took_used, took_out, took_used}
+use Rattle.n41_once.proofs.Said.{stays, used_kept, gives_final, last_put}
+use Rattle.n41_once.proofs.Single.{Single, took_outs, finishing_answered}
+use Rattle.n41_once.proofs.Told.{Told, named_is, caller_is}
+use Rattle.n41_once.proofs.Lives.{Lives}
+use Rattle.n41_once.proofs.Net.{TakenIs}
+use Rattle.n41_once.proofs.Verdicts.{ends, final_is, is_dropped, is_ran, is_too_big}
+use Rattle.n41_once.proofs.Acts.{acts_in, no_change, reading_change, ran_value, walk_value}
+use Rattle.n41_once.proofs.Counted.{once, Weighed, Earned, Copies, Counted, keep_weighed, keep_earned}
 use Rattle.n41_model.specs.declared.words.Listed.{Listed}
 use Rattle.n41_types.specs.declared.operations.Operation.{Operation}
 use Rattle.n41_types.specs.declared.plans.Class.TheVariants.{Reading}
@@ -219,10 +190,10 @@ earns n sizes w r p y c k l m s g q i v.Unbound e = absurd (true≢false (sym q.
 
 -- ---- a reply on a slot
 
-at_most : (d : ℕ) → d ≤ d
+pub at_most : (d : ℕ) → d ≤ d
 at_most d = omega arith
 
-copy_of : (n : ℕ) (sizes : Sizes) (w : List Step) (es : List Event) → Copies n sizes w → ((k : ℕ) → message es k ≡ message (client w) k) → ((k : ℕ) → command_of n es k ≡ command_of n (client w) k) → ((s : ℕ) → command_on n es s ≡ command_on n (client w) s) → ((s : ℕ) (r : Request) → out es s ≡ Some r → (out (client w) s ≡ Some r) × (used es s ≡ used (client w) s)) → (k : ℕ) (r q : Request) (p : SlotUse) → IsCopy sizes es k r p → out es p.slot ≡ Some q → command_of n es k ≡ command_on n es p.slot
+pub copy_of : (n : ℕ) (sizes : Sizes) (w : List Step) (es : List Event) → Copies n sizes w → ((k : ℕ) → message es k ≡ message (client w) k) → ((k : ℕ) → command_of n es k ≡ command_of n (client w) k) → ((s : ℕ) → command_on n es s ≡ command_on n (client w) s) → ((s : ℕ) (r : Request) → out es s ≡ Some r → (out (client w) s ≡ Some r) × (used es s ≡ used (client w) s)) → (k : ℕ) (r q : Request) (p : SlotUse) → IsCopy sizes es k r p → out es p.slot ≡ Some q → command_of n es k ≡ command_on n es p.slot
 copy_of n sizes w es g a b c d k r q p e f =
     let h = d p.slot q f in
     b k ∙ (g k r q p (record { put = sym (a k) ∙ e.put; placed = e.placed; fits = e.fits; turn = e.turn ∙ h.1 }) h.0 ∙ sym (c p.slot))
@@ -328,7 +299,7 @@ taken_earned u sizes w k c m y r p kp z s t lv d g f a l = record {
     by (inl o) = g.earned.given x b (sym (ap (λ (i2 : Call). i2.earned) (call_here x i ∙ o)) ∙ e)
     by (inr (o, n, v2)) = gives_kind (call u.callers (client w) x).way.listed (Some (verdict_of r (retried (client w) p.slot) y)) (call u.callers (client w) x).attempts b (sym v2 ∙ (sym (ap (λ (i2 : Call). i2.earned) (call_here x i)) ∙ e))
 
-taken_counted : (u : Setup) (sizes : Sizes) (w : List Step) (k c m : ℕ) (y : Reply) (r : Request) → Kept u (client w) → Seats (client w) → Single u (client w) → Told u.callers (client w) → Lives u w → Served sizes w → Counted u.callers sizes w → MayBeTaken w k c y → TakenIs (client w) k y r → Counted u.callers sizes (Takes k c m y ∷ w)
+pub taken_counted : (u : Setup) (sizes : Sizes) (w : List Step) (k c m : ℕ) (y : Reply) (r : Request) → Kept u (client w) → Seats (client w) → Single u (client w) → Told u.callers (client w) → Lives u w → Served sizes w → Counted u.callers sizes w → MayBeTaken w k c y → TakenIs (client w) k y r → Counted u.callers sizes (Takes k c m y ∷ w)
 taken_counted u sizes w k c m y r kp z s t lv d g a (inl (b, e, l)) = record {
   weighed = keep_weighed u.callers w (Takes k c m y) g.weighed (record {
     lasts = λ _ _. refl;
