@@ -1,5 +1,5 @@
 // The lines at the head of a script, each read from the words behind its first.
-ghost use Rattle.std.specs.Prelude.{◌≡◌, IfOk, IfErr};
+ghost use Rattle.std.specs.Prelude.{◌≡◌, ◌≤◌, length, IfOk, IfErr};
 ghost use Rattle.n41_words.specs.Lines.{words};
 ghost use Rattle.n41_words.specs.Faults.{Gives};
 ghost use Rattle.n41_commands.specs.Heads.{id, ids, owner, HasId, LacksId};
@@ -54,7 +54,8 @@ pub fn read_ids(long: bool, text: &[u8]) -> Result<Ids, LineFault>
 
 /// The owner that the word behind `owner` names. Where the line has more bytes than one may have, behind this text, it is `long`.
 pub fn read_owner(alloc: Global, long: bool, text: &[u8]) -> Result<Bytes, LineFault>
-    ensures { Gives result (owner long (words text.now)) }
+    ensures gives { Gives result (owner long (words text.now)) }
+    ensures bound { IfOk result (λ o. length o ≤ 255) }
 {
     let Some((word, rest)) = next_word(text) else {
         return Err(LineFault::Kind(missing(long, LineKind::Words)));

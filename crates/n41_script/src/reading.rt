@@ -1,5 +1,5 @@
 // The lines of a script, read one after another.
-ghost use Rattle.std.specs.Prelude.{◌≡◌, ◌<◌, ◌∷◌, ◌++◌, [], length, IfOk, IfErr, OnOk, Err, if◌then◌else◌};
+ghost use Rattle.std.specs.Prelude.{◌≡◌, ◌<◌, ◌≤◌, ◌∷◌, ◌++◌, [], length, IfOk, IfErr, IfSome, OnOk, Err, if◌then◌else◌};
 ghost use Rattle.n41_words.specs.Lines.{lines, words};
 ghost use Rattle.n41_commands.specs.Heads.{ids, owner};
 ghost use Rattle.n41_words.specs.declared.fault.LineKind.TheVariants as kind;
@@ -44,7 +44,9 @@ fn ids_of(ids: Option<Ids>) -> Ids
 
 /// The owner, where a script names none too.
 fn owner_of(alloc: Global, owner: Option<Bytes>) -> Result<Bytes, NoMemory>
-    ensures { IfOk result (λ o. o ≡ owner_of owner) }
+    requires { IfSome owner (λ o. length o ≤ 255) }
+    ensures is { IfOk result (λ o. o ≡ owner_of owner) }
+    ensures bound { IfOk result (λ o. length o ≤ 255) }
 {
     match owner {
         None => Bytes::copy_from_slice(alloc, b"n41"),
@@ -62,7 +64,7 @@ struct Reading {
 }
 
 impl Model for Reading {
-    ghost use Rattle.std.specs.Prelude.{◌≤◌, vec_len};
+    ghost use Rattle.std.specs.Prelude.{◌≤◌, length, vec_len, IfSome};
     ghost use Rattle.n41_script.specs.Callers.{caller_limit};
     ghost use Rattle.n41_script.specs.Scripts.{Said};
 
@@ -70,7 +72,7 @@ impl Model for Reading {
 
     ghost view = { λ r. record { ids = r.ids; owner = r.owner; callers = r.callers.items; lines = r.lines.items } };
 
-    ghost invariant = { λ r. vec_len r.callers ≤ caller_limit };
+    ghost invariant = { λ r. (vec_len r.callers ≤ caller_limit) × IfSome r.owner (λ o. length o ≤ 255) };
 }
 
 impl Reading {
@@ -207,7 +209,8 @@ impl Reading {
 
     /// The script that says so much.
     fn into_script(self, alloc: Global) -> Result<Script, NoMemory>
-        ensures { IfOk result (λ s. IsOf self s) }
+        ensures is { IfOk result (λ s. IsOf self s) }
+        ensures owner { IfOk result (λ s. length s.owner ≤ 255) }
     {
         let Ids { uid, gid } = ids_of(self.ids);
         let owner = owner_of(alloc, self.owner)?;
@@ -245,6 +248,7 @@ fn read_lines(alloc: Global, text: &[u8]) -> Result<Reading, ScriptFault>
 /// has the fault `Limit` at line 0.
 pub fn read_script(alloc: Global, text: &[u8]) -> Result<Script, ScriptFault>
     ensures ok { IfOk result (λ s. IsScript text.now s) }
+    ensures owner { IfOk result (λ s. length s.owner ≤ 255) }
     ensures err { IfErr result (λ f. IsFault text.now f) }
 {
     if text.len() > SCRIPT_LIMIT {
