@@ -33,6 +33,7 @@ impl Brought {
 }
 
 /// A request of a command was answered OK: it leads on, and maybe gives a value.
+#[tactic(auto, using(crate::proofs::Stays::stat_stays, crate::proofs::Stays::make_dir_stays, crate::proofs::Stays::remove_stays, crate::proofs::Stays::rename_stays))]
 fn took_step(
     command: Option<&Command>,
     request: Option<&Request>,
