@@ -30,7 +30,7 @@ broke_slot_is n js c s x = slot_is s refl (broke_held_is n js c s x (out js s))
 
 -- ---- seats
 
-began_seat_is : (n : ℕ) (js : List Event) (c k m d : ℕ) (a : Command) (b : Bool) → (c == d) ≡ b → began_seat c k a (suc (length js)) (seat_of n js d) ≡ seat_of n (Began c k a m ∷ js) d
+began_seat_is : (n : ℕ) (js : List Event) (c k m d : ℕ) (a : Command) (b : Bool) → (c == d) ≡ b → began_seat c k a m (suc (length js)) (seat_of n js d) ≡ seat_of n (Began c k a m ∷ js) d
 began_seat_is n js c k m d a true e = rw e refl
 began_seat_is n js c k m d a false e = rw e refl
 
@@ -43,7 +43,7 @@ answered_seat_is n js c k d a false e = rw e refl
 pub began_step : (n : ℕ) (js : List Event) (c k m : ℕ) (a : Command) → step (view n js) (Began c k a m) ≡ view n (Began c k a m ∷ js)
 began_step n js c k m a =
     let es = slots_same n js (Began c k a m ∷ js) (λ s. slot_same n js (Began c k a m ∷ js) s refl refl refl refl refl refl refl) 0 (slots js) in
-    tables_are refl refl es (seats_map n js (Began c k a m ∷ js) (began_seat c k a (suc (length js))) (λ d. began_seat_is n js c k m d a (c == d) refl) 0 n)
+    tables_are refl refl es (seats_map n js (Began c k a m ∷ js) (began_seat c k a m (suc (length js))) (λ d. began_seat_is n js c k m d a (c == d) refl) 0 n)
 
 pub dialed_step : (n : ℕ) (js : List Event) (c : ℕ) → step (view n js) (Dialed c) ≡ view n (Dialed c ∷ js)
 dialed_step n js c = tables_are refl refl (slots_map n js (Dialed c ∷ js) dialed_slot (λ s. dialed_slot_is n js c s) 0 (slots js)) (seats_same n js (Dialed c ∷ js) (λ d. refl) 0 n)
