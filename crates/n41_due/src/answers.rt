@@ -1,13 +1,11 @@
-ghost use Rattle.std.specs.Prelude.{◌≡◌, ◌<◌, ◌≤◌, None, position, IfSome, IfNone};
+ghost use Rattle.std.specs.Prelude.{◌≡◌, ◌<◌, ◌≤◌, None, IfSome, IfNone};
 ghost use Rattle.n41_view.specs.Due.{has_ended_in, is_over_in};
 ghost use Rattle.n41_view.specs.Causes.{CauseIn, any_doubt};
 ghost use Rattle.n41_model.specs.Answers.{round_limit};
 ghost use Rattle.n41_model.specs.Due.{is_dead};
-ghost use Rattle.n41_due.specs.Answers.{has_earned, is_unanswered};
 
 use crate::lookup::Lookup;
 use crate::plans::has_destroy_plan;
-use crate::seats::{first_earned, first_unanswered};
 use crate::slots::any_doubt;
 use n41_model::Phase;
 use n41_types::Answer;
@@ -37,33 +35,6 @@ impl Lookup<'_> {
             return true;
         }
         self.is_finishing() && self.is_over()
-    }
-
-    /// The first caller whose unanswered command has earned its answer. None exactly where there is none.
-    pub fn earned(&self) -> Option<u32>
-        ensures { result ≡ position has_earned self.now.seats }
-    {
-        match first_earned(self.seats) {
-            None => None,
-            Some(caller) => Some(caller as u32),
-        }
-    }
-
-    /// The first caller whose command is unanswered. None exactly where there is none.
-    pub fn unanswered(&self) -> Option<u32>
-        ensures { result ≡ position is_unanswered self.now.seats }
-    {
-        match first_unanswered(self.seats) {
-            None => None,
-            Some(caller) => Some(caller as u32),
-        }
-    }
-
-    /// Whether a changing request of the caller is in doubt: a connection broke while it was unanswered.
-    pub fn is_doubtful(&self, caller: u32) -> bool
-        ensures { result ≡ any_doubt caller self.now.slots }
-    {
-        any_doubt(self.slots, caller)
     }
 
     /// The answer to an unanswered command where no reply is waited for any more: that a reply broke the rules; or once sixteen rounds

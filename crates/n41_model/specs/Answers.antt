@@ -12,7 +12,7 @@ use Rattle.n41_model.specs.declared.words.Verdict.{Verdict}
 use Rattle.n41_model.specs.declared.words.BareVerdict.{BareVerdict}
 use Rattle.n41_model.specs.Replies.{is_breach, is_bare_breach}
 use Rattle.n41_model.specs.Requests.{out, doubt, rounds, verdict, bare_verdict}
-use Rattle.n41_model.specs.Calls.{given, owner}
+use Rattle.n41_model.specs.Calls.{call, given, owner}
 
 abbrev pub breaks : Option Verdict → Option BareVerdict → Bool
 breaks (Some w) x = is_breach w
@@ -33,9 +33,10 @@ breach_at (e ∷ js) = breach_at js
 abbrev pub round_limit : ℕ
 round_limit = 16
 
--- A changing request of the command was put, it has no final reply, a connection of it broke while it was unanswered, and the run
+-- A request of the command is out; a changing one of it was put, it has no final reply, a connection of it broke while it was unanswered, and the run
 -- ended without another reply: whether it took effect is not known.
 pub record UnknownCause (n : ℕ) (js : List Event) (c : ℕ) : Type 0 where
+  pub busy : (call n js c).busy ≡ true
   pub slot : ℕ
   pub request : Request
   pub is_out : out js slot ≡ Some request
@@ -44,9 +45,10 @@ pub record UnknownCause (n : ℕ) (js : List Event) (c : ℕ) : Type 0 where
   pub broke : doubt js slot ≡ true
   pub ended : round_limit ≤ rounds js
 
--- No reply came in the last rounds, and no changing request of the command is in doubt.
+-- No reply came in the last rounds, the command has no answer by now, and no changing request of it is in doubt.
 pub record UnreachableCause (n : ℕ) (js : List Event) (c : ℕ) (k : ℕ) : Type 0 where
   pub count : k ≡ round_limit
+  pub ungiven : given n js c ≡ None
   pub ended : round_limit ≤ rounds js
   pub certain : UnknownCause n js c → ⊥
 

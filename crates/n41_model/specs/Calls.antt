@@ -311,9 +311,10 @@ abbrev pub way_after : Option Command → Plan → Option Verdict → Reply → 
 way_after c p (Some (v.Ran s)) y w = if is_ok s then step_of c p y w else w
 way_after c p v y w = w
 
+-- a final reply to the request of a call that is out; one to a request of the caller's command before changes nothing
 abbrev pub took_call : ℕ → Option Command → Plan → Option Verdict → Reply → Call → Call
 took_call m c p w y k =
-    if is_final y
+    if is_final y && k.busy
     then record {
       busy = false;
       since = if is_put_off_by w k.attempts then Some m else None;

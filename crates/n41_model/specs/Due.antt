@@ -1,5 +1,5 @@
 -- Which requests are due on the standing connection (own; the order of sessions and slots is that of RFC 8881, section 2.10).
-use Rattle.std.specs.Prelude.{◌≡◌, ℕ, zero, suc, ◌+◌, ◌==◌, Bool, true, false, ◌&&◌, ◌||◌, not, List, [], ◌∷◌, Option, Some, None, if◌then◌else◌, nat_le, is_some, is_none}
+use Rattle.std.specs.Prelude.{◌≡◌, ℕ, zero, suc, ◌+◌, ◌==◌, Bool, true, false, ◌&&◌, ◌||◌, not, List, [], ◌∷◌, Option, Some, None, if◌then◌else◌, nat_le, nat_lt, is_some, is_none}
 use Rattle.n41_types.specs.declared.plans.Plan.{Plan}
 use Rattle.n41_types.specs.declared.plans.Plan.TheVariants as plan
 use Rattle.n41_types.specs.declared.plans.Request.{Request}
@@ -152,8 +152,9 @@ may_own u js = not (finishing u.callers js) && passed (put_off js (phase js)) (m
 abbrev pub may_begin : Setup → List Event → ℕ → Bool
 may_begin u js c = not (finishing u.callers js) && is_running (phase js) && nat_le (c + 1) u.callers && is_ready u.callers js c
 
+-- the session is given up only where no reply is awaited on a slot: a server might answer that there is no session any more
 abbrev pub may_destroy : Setup → List Event → Bool
-may_destroy u js = finishing u.callers js && is_empty (bares js)
+may_destroy u js = finishing u.callers js && is_empty (bares js) && not (any_waits js)
 
 abbrev pub item_due : Setup → List Event → Item → Option Request
 -- the request without a slot that is out goes on each connection on which it was not put, bound or not
@@ -164,11 +165,11 @@ item_due u js item.Own = only_if (may_own u js) (with_plan (own_plan js) (on_fre
 item_due u js (item.Fresh c) = only_if (may_begin u js c) (with_plan (plan_next u.callers js c) (on_free_slot u js))
 item_due u js item.Destroy = only_if (may_destroy u js) (with_plan (destroy_plan js) (bare_due u js))
 
--- the standing connection carries requests
+-- the standing connection carries requests: after a breach, and once so many rounds had no reply, the run has ended for good
 abbrev pub is_open : List Event → Bool
-is_open js = is_some (standing js) && not (is_dead (phase js))
+is_open js = is_some (standing js) && not (is_dead (phase js)) && nat_lt (rounds js) round_limit
 
--- The request of this kind that is due on the standing connection: none in phase Dead, and none where no connection stands.
+-- The request of this kind that is due on the standing connection: none where the run has ended, and none where no connection stands.
 abbrev pub due : Setup → List Event → Item → Option Request
 due u js i = only_if (is_open js) (item_due u js i)
 

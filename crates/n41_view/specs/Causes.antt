@@ -40,9 +40,9 @@ given_in m s = either s.earned (pause_given s.began_on m s.command)
 abbrev pub CauseIn : View → Seat → Answer → Type 0
 CauseIn w s (answer.Done x) = given_in w.facts.moment s ≡ Some (answer.Done x)
 CauseIn w s (answer.Refused e) = given_in w.facts.moment s ≡ Some (answer.Refused e)
-CauseIn w s answer.Unknown = (round_limit ≤ w.facts.rounds) × (any_doubt s.caller w.slots ≡ true)
+CauseIn w s answer.Unknown = (round_limit ≤ w.facts.rounds) × ((s.busy && any_doubt s.caller w.slots) ≡ true)
 CauseIn w s (answer.StateLost e) = ⊥
-CauseIn w s (answer.Unreachable k) = (k ≡ round_limit) × (round_limit ≤ w.facts.rounds) × (any_doubt s.caller w.slots ≡ false)
+CauseIn w s (answer.Unreachable k) = (k ≡ round_limit) × (round_limit ≤ w.facts.rounds) × (given_in w.facts.moment s ≡ None) × ((s.busy && any_doubt s.caller w.slots) ≡ false)
 CauseIn w s answer.NotOpen = ⊥
 CauseIn w s (answer.Breach p) = w.facts.breach_at ≡ Some p
 

@@ -132,7 +132,7 @@ begins_seat u w None = None
 begins_seat u w (Some s) = only_if (is_ready_seat w.facts.moment s) (with_plan (seat_plan w.facts.session s) (new_on u w))
 
 abbrev pub is_open_in : Facts → Bool
-is_open_in f = is_some f.standing && not (is_dead f.phase)
+is_open_in f = is_some f.standing && not (is_dead f.phase) && nat_lt f.rounds round_limit
 
 -- a new request without a slot goes only where none is out; a session is made only where no reply is awaited on a slot
 abbrev pub may_step_in : View → Bool
@@ -147,7 +147,7 @@ due_item u w (item.Retry n) = only_if (not (finishing_in w) && w.facts.bound) (g
 due_item u w item.Step = only_if (may_step_in w) (with_plan (plan_for u w.facts w.facts.phase) (new_bare u w))
 due_item u w item.Own = only_if (may_own_in w) (with_plan (own_plan_in w.facts.phase w.facts.completed) (new_on u w))
 due_item u w (item.Fresh c) = only_if (not (finishing_in w) && is_running w.facts.phase) (begins_seat u w (slice_get w.seats c))
-due_item u w item.Destroy = only_if (finishing_in w && is_none w.bare) (with_plan (destroy_in w.facts.session w.facts.client) (new_bare u w))
+due_item u w item.Destroy = only_if (finishing_in w && is_none w.bare && not (any_waiting w.slots)) (with_plan (destroy_in w.facts.session w.facts.client) (new_bare u w))
 
 -- the request of this kind that is due on the standing connection
 abbrev pub due_in : Setup → View → Item → Option Request
