@@ -26,8 +26,8 @@ use Rattle.n41_results.specs.Shapes.{put_of, operations_of, behind, asked_of, sh
 use Rattle.n41_model.specs.declared.words.Listed.{Listed}
 use Rattle.n41_model.specs.Calls.{value_of, body_value}
 use Rattle.n41_model.specs.Replies.{is_ok, body_verdict, verdict_of}
-use Rattle.n41_once.proofs.Suits.{is_dir_change, is_walk}
-use Rattle.n41_once.proofs.Verdicts.{is_ran}
+use Rattle.n41_moves.proofs.Suits.{is_dir_change, is_walk}
+use Rattle.n41_net.proofs.Verdicts.{is_ran}
 use Rattle.n41_runs.specs.Effects.{change_of, is_done, has_done, acts}
 use Rattle.n41_runs.specs.Rules.{IsRun}
 use Rattle.n41_runs.specs.Steps.{ran_reply, end_status}

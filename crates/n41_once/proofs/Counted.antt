@@ -16,9 +16,9 @@ use Rattle.n41_model.specs.Replies.{is_ok, body_verdict}
 use Rattle.n41_model.specs.Requests.{out, used}
 use Rattle.n41_model.specs.Text.{answer_to}
 use Rattle.n41_once.proofs.Acts.{acts_in}
-use Rattle.n41_once.proofs.Served.{IsOn, IsCopy}
-use Rattle.n41_once.proofs.Suits.{is_dir_change}
-use Rattle.n41_once.proofs.Telling.{is_given}
+use Rattle.n41_served.proofs.Served.{IsOn, IsCopy}
+use Rattle.n41_moves.proofs.Suits.{is_dir_change}
+use Rattle.n41_told.proofs.Telling.{is_given}
 use Rattle.n41_runs.specs.Effects.{CommandName, Effect, is_named, asked, is_changing, command_on, command_of, effects, effects_of, count_of}
 use Rattle.n41_runs.specs.Good.{is_undone}
 use Rattle.n41_runs.specs.Rules.{Sizes}

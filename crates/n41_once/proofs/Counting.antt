@@ -16,9 +16,9 @@ use Rattle.n41_model.specs.Calls.{Call, call, command, is_caller, number, put_ca
 use Rattle.n41_model.specs.Replies.{body_verdict, is_ok}
 use Rattle.n41_model.specs.Requests.{slot_number, first, out, used}
 use Rattle.n41_once.proofs.Acts.{acts_in}
-use Rattle.n41_once.proofs.Served.{IsCopy, IsOn, Served}
-use Rattle.n41_once.proofs.Suits.{is_dir_change}
-use Rattle.n41_once.proofs.Telling.{is_given}
+use Rattle.n41_served.proofs.Served.{IsCopy, IsOn, Served}
+use Rattle.n41_moves.proofs.Suits.{is_dir_change}
+use Rattle.n41_told.proofs.Telling.{is_given}
 use Rattle.n41_runs.specs.Effects.{command_at, CommandName, command_of, command_on, effects_of, is_changing, is_named, last_of}
 use Rattle.n41_runs.specs.Rules.{Sizes}
 use Rattle.n41_runs.specs.Server.{kept, last}
@@ -27,18 +27,17 @@ use Rattle.n41_results.specs.declared.sessions.SessionMade.{SessionMade}
 use Rattle.n41_journal.specs.declared.events.Event.TheVariants.{Put}
 use Rattle.n41_model.specs.declared.words.Setup.{Setup}
 use Rattle.n41_model.proofs.Slots.{Seats}
-use Rattle.n41_once.proofs.Chosen.{new_owner, owner_ready}
-use Rattle.n41_once.proofs.Ledgers.{NewLedger, SameLedger, again_moves, bare_moves, new_moves}
-use Rattle.n41_once.proofs.Moves.{PutsAgain, PutsNew, again_out, bare_on_none, bare_outs, puts_new}
-use Rattle.n41_once.proofs.Putting.{slot_is}
-use Rattle.n41_once.proofs.Puts.{NewOn}
-use Rattle.n41_once.proofs.Said.{Said}
-use Rattle.n41_once.proofs.Single.{Single, given, sid_in}
-use Rattle.n41_once.proofs.Told.{named_owner}
-use Rattle.n41_once.proofs.Lives.{Lives}
+use Rattle.n41_told.proofs.Chosen.{new_owner, owner_ready}
+use Rattle.n41_told.proofs.Ledgers.{NewLedger, SameLedger, again_moves, bare_moves, new_moves}
+use Rattle.n41_moves.proofs.Moves.{PutsAgain, PutsNew, again_out, bare_on_none, bare_outs, puts_new, slot_is}
+use Rattle.n41_moves.proofs.Puts.{NewOn}
+use Rattle.n41_moves.proofs.Said.{Said}
+use Rattle.n41_moves.proofs.Single.{Single, given, sid_in}
+use Rattle.n41_told.proofs.Told.{named_owner}
+use Rattle.n41_net.proofs.Lives.{Lives}
 use Rattle.n41_once.proofs.Acts.{acts_in}
 use Rattle.n41_once.proofs.Counted.{once, Counted, keep_weighed, keep_earned}
-use Rattle.n41_once.proofs.Putting.{PutsOn, again_on, new_on, used_here, used_there}
+use Rattle.n41_served.proofs.Putting.{PutsOn, again_on, new_on, used_here, used_there}
 
 -- ---- messages
 

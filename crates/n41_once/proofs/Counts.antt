@@ -1,5 +1,5 @@
 -- How often each command took effect, over all steps.
-use Rattle.n41_once.proofs.Taking.{served}
+use Rattle.n41_served.proofs.Taking.{served}
 use Rattle.n41_once.proofs.Counting.{again_counted, bare_counted, new_counted}
 use Rattle.std.proofs.lemmas.List.Elements.{All-cons}
 use Rattle.std.proofs.Common.{Bool, List, None, Option, Some, [], ap, arith, false, if◌then◌else◌, inl, inr, refl, subst, suc, sym, true, true≢false, ℕ, ◌&&◌, ◌-◌, ◌<◌, ◌==◌, ◌∙◌, ◌∷◌, ◌≡◌, ◌≢◌, ◌≤◌, ◌⊎◌}
@@ -21,9 +21,9 @@ use Rattle.n41_model.specs.Replies.{body_verdict, is_ok}
 use Rattle.n41_model.specs.Requests.{bares, doubt, moment, out, rounds, sent, used}
 use Rattle.n41_model.specs.Text.{answer_to}
 use Rattle.n41_once.proofs.Acts.{acts_in, run_acts}
-use Rattle.n41_once.proofs.Served.{IsCopy, IsOn, Ran, Served, body_in}
-use Rattle.n41_once.proofs.Suits.{change_class, is_dir_change}
-use Rattle.n41_once.proofs.Telling.{is_given, new_class, some_command, told}
+use Rattle.n41_served.proofs.Served.{IsCopy, IsOn, Ran, Served, body_in}
+use Rattle.n41_moves.proofs.Suits.{change_class, is_dir_change}
+use Rattle.n41_told.proofs.Telling.{is_given, new_class, some_command, told}
 use Rattle.n41_runs.specs.Effects.{CommandName, Effect, asked, change_of, command_of, command_on, effects, effects_of, is_changing, is_named, has_done, acts}
 use Rattle.n41_runs.specs.Good.{is_undone}
 use Rattle.n41_runs.specs.Rules.{Allowed, IsNoReply, LegalBy, Sizes}
@@ -35,28 +35,27 @@ use Rattle.n41_model.specs.declared.words.Setup.{Setup}
 use Rattle.n41_model.specs.Answers.{HasCause, UnreachableCause, round_limit}
 use Rattle.n41_model.specs.Kept.{Kept, May, MayAnswer, MayBegin}
 use Rattle.n41_model.proofs.Slots.{Seats, seats}
-use Rattle.n41_once.proofs.Chosen.{bare_owner}
-use Rattle.n41_once.proofs.Found.{no_use}
-use Rattle.n41_once.proofs.Known.{known}
-use Rattle.n41_once.proofs.Ledgers.{held}
-use Rattle.n41_once.proofs.Lists.{first_bare}
-use Rattle.n41_once.proofs.Moves.{puts_again, takes_is}
-use Rattle.n41_once.proofs.Putting.{slot_is}
-use Rattle.n41_once.proofs.Puts.{PutIs, PutOf, put_of}
-use Rattle.n41_once.proofs.Said.{Said, last_put, said}
-use Rattle.n41_once.proofs.Single.{Single, single}
-use Rattle.n41_once.proofs.Told.{Told, caller_of, named_is}
+use Rattle.n41_told.proofs.Chosen.{bare_owner}
+use Rattle.n41_view.proofs.Found.{no_use}
+use Rattle.n41_view.proofs.Known.{known}
+use Rattle.n41_told.proofs.Ledgers.{held}
+use Rattle.n41_view.proofs.Lists.{first_bare}
+use Rattle.n41_moves.proofs.Moves.{puts_again, takes_is, slot_is}
+use Rattle.n41_moves.proofs.Puts.{PutIs, PutOf, put_of}
+use Rattle.n41_moves.proofs.Said.{Said, last_put, said}
+use Rattle.n41_moves.proofs.Single.{Single, single}
+use Rattle.n41_told.proofs.Told.{Told, caller_of, named_is}
 use Rattle.n41_model.specs.declared.words.Sent.TheVariants.{Waits}
-use Rattle.n41_once.proofs.Lives.{Lives, lives}
-use Rattle.n41_once.proofs.Net.{net, taken_is}
-use Rattle.n41_once.proofs.Running.{is_on as on_at, IsNext, run_is_next, runs_last, runs_kept, here_is, there_is}
-use Rattle.n41_once.proofs.Verdicts.{run_verdict}
+use Rattle.n41_net.proofs.Lives.{Lives, lives}
+use Rattle.n41_net.proofs.Net.{net, taken_is}
+use Rattle.n41_served.proofs.Running.{is_on as on_at, IsNext, run_is_next, runs_last, runs_kept, here_is, there_is}
+use Rattle.n41_net.proofs.Verdicts.{run_verdict}
 use Rattle.n41_results.specs.declared.results.Res.{Res}
 use Rattle.n41_results.specs.declared.sessions.Sequenced.{Sequenced}
 use Rattle.n41_results.specs.Results.{ok}
 use Rattle.n41_once.proofs.Acts.{acts_in, no_change, run_acts}
 use Rattle.n41_once.proofs.Counted.{once, Copies, Counted, Keeps, SameCalls, keep_weighed, keep_earned}
-use Rattle.n41_once.proofs.Settled.{Settled, settled}
+use Rattle.n41_told.proofs.Settled.{Settled, settled}
 use Rattle.n41_types.specs.declared.operations.Operation.{Operation}
 use Rattle.n41_once.proofs.Weighing.{at_most, copy_of, taken_counted}
 

@@ -5,7 +5,7 @@ use Rattle.n41_model.specs.Kept.{Kept}
 use Rattle.n41_model.proofs.Slots.{keeps_one_out}
 use Rattle.n41_once.proofs.Counted.{Counted}
 use Rattle.n41_once.proofs.Counts.{counted}
-use Rattle.n41_once.proofs.Settled.{Settled, settled}
+use Rattle.n41_told.proofs.Settled.{Settled, settled}
 use Rattle.n41_runs.specs.Good.{Good, RunsAreGood}
 use Rattle.n41_runs.specs.Rules.{Sizes}
 use Rattle.n41_runs.specs.Steps.{Step, client}

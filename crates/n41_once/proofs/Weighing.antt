@@ -17,9 +17,9 @@ use Rattle.n41_model.specs.Calls.{Call, call, command, is_caller, number, owner,
 use Rattle.n41_model.specs.Replies.{gives_back, is_breach, is_final, is_ok, verdict_of}
 use Rattle.n41_model.specs.Requests.{made, out, retried, used}
 use Rattle.n41_once.proofs.Acts.{acts_in}
-use Rattle.n41_once.proofs.Served.{IsCopy, IsOn, Ran, SaysOn, Served}
-use Rattle.n41_once.proofs.Suits.{Suits, change_class, is_dir_change, is_walk}
-use Rattle.n41_once.proofs.Telling.{is_given, took_one}
+use Rattle.n41_served.proofs.Served.{IsCopy, IsOn, Ran, SaysOn, Served}
+use Rattle.n41_moves.proofs.Suits.{Suits, change_class, is_dir_change, is_walk}
+use Rattle.n41_told.proofs.Telling.{is_given, took_one}
 use Rattle.n41_runs.specs.Effects.{change_of, command_of, command_on, effects_of, is_changing, is_named}
 use Rattle.n41_runs.specs.Rules.{MayBeTaken, Sizes}
 use Rattle.n41_runs.specs.Server.{alive, kept, last}
@@ -33,14 +33,14 @@ use Rattle.n41_model.specs.declared.words.Setup.{Setup}
 use Rattle.n41_model.specs.Due.{finishing}
 use Rattle.n41_model.specs.Kept.{Kept}
 use Rattle.n41_model.proofs.Slots.{Seats}
-use Rattle.n41_once.proofs.Ledgers.{took_call_bare, took_call_on}
-use Rattle.n41_once.proofs.Moves.{TakesOn, bare_took, bare_took_used, took_out, took_used}
-use Rattle.n41_once.proofs.Said.{stays, used_kept, gives_final, last_put}
-use Rattle.n41_once.proofs.Single.{Single, took_outs, finishing_answered}
-use Rattle.n41_once.proofs.Told.{Told, named_is, caller_is}
-use Rattle.n41_once.proofs.Lives.{Lives}
-use Rattle.n41_once.proofs.Net.{TakenIs}
-use Rattle.n41_once.proofs.Verdicts.{ends, final_is, is_dropped, is_ran, is_too_big}
+use Rattle.n41_told.proofs.Ledgers.{took_call_bare, took_call_on}
+use Rattle.n41_moves.proofs.Moves.{TakesOn, bare_took, bare_took_used, took_out, took_used}
+use Rattle.n41_moves.proofs.Said.{stays, used_kept, gives_final, last_put}
+use Rattle.n41_moves.proofs.Single.{Single, took_outs, finishing_answered}
+use Rattle.n41_told.proofs.Told.{Told, named_is, caller_is}
+use Rattle.n41_net.proofs.Lives.{Lives}
+use Rattle.n41_net.proofs.Net.{TakenIs}
+use Rattle.n41_net.proofs.Verdicts.{ends, final_is, is_dropped, is_ran, is_too_big}
 use Rattle.n41_once.proofs.Acts.{acts_in, no_change, reading_change, ran_value, walk_value}
 use Rattle.n41_once.proofs.Counted.{once, Weighed, Earned, Copies, Counted, keep_weighed, keep_earned}
 use Rattle.n41_model.specs.declared.words.Listed.{Listed}

@@ -13,15 +13,15 @@ use Rattle.n41_model.specs.declared.words.Setup.{Setup}
 use Rattle.n41_model.specs.Due.{finishing}
 use Rattle.n41_model.specs.Requests.{bares, out, outs, used, sent, retried, doubt, turn_of, knows, is_on, first}
 use Rattle.n41_model.proofs.Slots.{Seats}
-use Rattle.n41_once.proofs.Found.{no_use}
-use Rattle.n41_once.proofs.Lists.{first_bare}
-use Rattle.n41_once.proofs.Lives.{Lives}
-use Rattle.n41_once.proofs.Moves.{PutsAgain, PutsNew, puts_again, puts_new, again_out, new_out, bare_outs, bare_on_none}
-use Rattle.n41_once.proofs.Net.{Net, put_fresh, put_message}
-use Rattle.n41_once.proofs.Puts.{PutIs}
-use Rattle.n41_once.proofs.Said.{Said, last_put}
-use Rattle.n41_once.proofs.Served.{Served, Says, IsCopy, Ran, body_in}
-use Rattle.n41_once.proofs.Single.{Single, given, sid_in}
+use Rattle.n41_view.proofs.Found.{no_use}
+use Rattle.n41_view.proofs.Lists.{first_bare}
+use Rattle.n41_net.proofs.Lives.{Lives}
+use Rattle.n41_moves.proofs.Moves.{PutsAgain, PutsNew, puts_again, puts_new, again_out, new_out, bare_outs, bare_on_none, slot_is, itself}
+use Rattle.n41_net.proofs.Net.{Net, put_fresh, put_message}
+use Rattle.n41_moves.proofs.Puts.{PutIs}
+use Rattle.n41_moves.proofs.Said.{Said, last_put}
+use Rattle.n41_served.proofs.Served.{Served, Says, IsCopy, Ran, body_in}
+use Rattle.n41_moves.proofs.Single.{Single, given, sid_in}
 use Rattle.n41_runs.specs.Rules.{Sizes}
 use Rattle.n41_runs.specs.Server.{last, kept, alive}
 use Rattle.n41_runs.specs.Steps.{Step, Does, client, message, messages, carrier, fate}
@@ -38,12 +38,6 @@ again_on js r p a = record { placed = a.placed; on = a.on; known = a.known }
 
 pub new_on : (js : List Event) (r : Request) (p : SlotUse) → PutsNew js r p → PutsOn js r p false
 new_on js r p a = record { placed = a.placed; on = a.on; known = a.known }
-
-pub slot_is : (p : SlotUse) (n : ℕ) → (p.slot == n) ≡ true → p.slot ≡ n
-slot_is p n e = grind (arith, nat_tests, e)
-
-pub itself : (p : SlotUse) → (p.slot == p.slot) ≡ true
-itself p = grind (arith, nat_tests)
 
 pub used_here : (js : List Event) (c k : ℕ) (r : Request) (p : SlotUse) (b : Bool) → PutsOn js r p b → used (Put c k r ∷ js) p.slot ≡ p.turn
 used_here js c k r p b o = let e = o.on p.slot ∙ itself p in let f = o.placed in rw e (ap (λ (x : Option SlotUse). turn_of x) f)

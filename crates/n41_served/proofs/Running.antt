@@ -17,13 +17,13 @@ use Rattle.n41_model.specs.declared.words.Verdict.TheVariants as v
 use Rattle.n41_model.specs.Replies.{verdict_of, is_breach}
 use Rattle.n41_model.specs.Requests.{out, outs, used, sent, retried, doubt}
 use Rattle.n41_model.proofs.Slots.{Seats}
-use Rattle.n41_once.proofs.Found.{use_on}
-use Rattle.n41_once.proofs.Lists.{first_on}
-use Rattle.n41_once.proofs.Said.{Said, last_put}
-use Rattle.n41_once.proofs.Served.{Served, Says, SaysOn, IsOn, IsCopy, Ran, body_in}
-use Rattle.n41_once.proofs.Single.{Single, given, sid_in}
-use Rattle.n41_once.proofs.Suits.{session_same, session_itself}
-use Rattle.n41_once.proofs.Verdicts.{is_ran, is_dropped, is_too_big, run_verdict}
+use Rattle.n41_view.proofs.Found.{use_on}
+use Rattle.n41_view.proofs.Lists.{first_on}
+use Rattle.n41_moves.proofs.Said.{Said, last_put}
+use Rattle.n41_served.proofs.Served.{Served, Says, SaysOn, IsOn, IsCopy, Ran, body_in}
+use Rattle.n41_moves.proofs.Single.{Single, given, sid_in}
+use Rattle.n41_moves.proofs.Suits.{session_same, session_itself}
+use Rattle.n41_net.proofs.Verdicts.{is_ran, is_dropped, is_too_big, run_verdict}
 use Rattle.n41_runs.specs.Rules.{Sizes, Allowed, Pending, MayRun}
 use Rattle.n41_runs.specs.Server.{last, kept, alive, is_session}
 use Rattle.n41_runs.specs.Steps.{Step, Runs, client, message, fate, ran_reply, end_status}

@@ -20,18 +20,18 @@ use Rattle.n41_model.specs.Kept.{Kept, May}
 use Rattle.n41_model.specs.Replies.{verdict_of, body_verdict, is_breach, is_final, gives_back, sequence_status}
 use Rattle.n41_model.specs.Requests.{out, used, sent, retried, doubt, standing, made, is_waiting, sent_after, moment}
 use Rattle.n41_model.proofs.Slots.{Seats, seats}
-use Rattle.n41_once.proofs.Answering.{repeats_served, refuses_served, names_served, binds_served, makes_served, ends_served}
-use Rattle.n41_once.proofs.Known.{known}
-use Rattle.n41_once.proofs.Lives.{Lives, lives}
-use Rattle.n41_once.proofs.Moves.{TakesOn, takes_is, took_out, took_used, took_sent, bare_took, bare_took_used, bare_took_sent}
-use Rattle.n41_once.proofs.Net.{Net, net, TakenIs, taken_is}
-use Rattle.n41_once.proofs.Puts.{put_of}
-use Rattle.n41_once.proofs.Putting.{Slot, SameSlot, slot_of, slot_same, slot_is, itself, puts_served}
-use Rattle.n41_once.proofs.Running.{runs_served}
-use Rattle.n41_once.proofs.Said.{Said, said, last_put, made_first, sent_after_not, gives_final}
-use Rattle.n41_once.proofs.Served.{Served, SaysOn, IsOn, Ran, body_in}
-use Rattle.n41_once.proofs.Single.{Single, single, given, sid_in, or_made}
-use Rattle.n41_once.proofs.Verdicts.{is_ran, is_dropped, is_too_big, ends, final_is, gives_is}
+use Rattle.n41_served.proofs.Answering.{repeats_served, refuses_served, names_served, binds_served, makes_served, ends_served}
+use Rattle.n41_view.proofs.Known.{known}
+use Rattle.n41_net.proofs.Lives.{Lives, lives}
+use Rattle.n41_moves.proofs.Moves.{TakesOn, takes_is, took_out, took_used, took_sent, bare_took, bare_took_used, bare_took_sent, slot_is, itself}
+use Rattle.n41_net.proofs.Net.{Net, net, TakenIs, taken_is}
+use Rattle.n41_moves.proofs.Puts.{put_of}
+use Rattle.n41_served.proofs.Putting.{Slot, SameSlot, slot_of, slot_same, puts_served}
+use Rattle.n41_served.proofs.Running.{runs_served}
+use Rattle.n41_moves.proofs.Said.{Said, said, last_put, made_first, sent_after_not, gives_final}
+use Rattle.n41_served.proofs.Served.{Served, SaysOn, IsOn, Ran, body_in}
+use Rattle.n41_moves.proofs.Single.{Single, single, given, sid_in, or_made}
+use Rattle.n41_net.proofs.Verdicts.{is_ran, is_dropped, is_too_big, ends, final_is, gives_is}
 use Rattle.n41_runs.specs.Rules.{IsNoReply, Sizes, LegalBy, MayBeTaken}
 use Rattle.n41_runs.specs.Server.{last, kept, alive}
 use Rattle.n41_runs.specs.Steps.{Step, Does, Takes, Runs, Repeats, Refuses, Names, Makes, Binds, Ends, client, message, fate}

@@ -1,4 +1,5 @@
 -- A kept journal has one session, and what has a slot names it.
+use Rattle.n41_view.specs.Step.{has}
 use Rattle.std.proofs.Common.{◌≡◌, ◌≢◌, ◌⊎◌, inl, inr, ℕ, zero, suc, ◌<◌, ◌==◌, Bool, true, false, ◌&&◌, List, [], ◌∷◌, Option, Some, None, if◌then◌else◌, refl, sym, ◌∙◌, ap, subst, arith, true≢false}
 use Rattle.std.proofs.lemmas.Bool.Decides.{nat_tests}
 use Rattle.std.specs.Prelude.{is_none, is_some}
@@ -28,13 +29,13 @@ use Rattle.n41_model.specs.Replies.{bare_verdict_of, is_final}
 use Rattle.n41_model.specs.Requests.{bares, bare, out, made, session_in, bare_verdict, verdict, quit, is_bare, is_bare_use, first}
 use Rattle.n41_model.specs.Sessions.{session, session_after, client, phase, phases, plan_of, took_phase, slot_phase, bare_phase, worked, dialed_phase, broke_phase, is_lease_time}
 use Rattle.n41_model.proofs.Slots.{Seats, seats}
-use Rattle.n41_once.proofs.Bares.{is_exchange, is_create, is_end, may_be, may_be_so}
-use Rattle.n41_once.proofs.Fresh.{Placed, put_placed}
-use Rattle.n41_once.proofs.Found.{no_use, fits_xid}
-use Rattle.n41_once.proofs.Known.{Known, known, put_out_bare}
-use Rattle.n41_once.proofs.Lists.{has, one_bare, without_is, first_bare}
-use Rattle.n41_once.proofs.Moves.{PutsAgain, puts_again, puts_new, again_out, new_out, bare_outs, bare_took, took_out, TakesBare, TakesIs, takes_is}
-use Rattle.n41_once.proofs.Puts.{PutIs, AgainBare, NewBare, NewOn, ByStep, ByEnd, put_of}
+use Rattle.n41_moves.proofs.Bares.{is_exchange, is_create, is_end, may_be, may_be_so}
+use Rattle.n41_view.proofs.Fresh.{Placed, put_placed}
+use Rattle.n41_view.proofs.Found.{no_use, fits_xid}
+use Rattle.n41_view.proofs.Known.{Known, known, put_out_bare}
+use Rattle.n41_view.proofs.Lists.{one_bare, without_is, first_bare}
+use Rattle.n41_moves.proofs.Moves.{PutsAgain, puts_again, puts_new, again_out, new_out, bare_outs, bare_took, took_out, TakesBare, TakesIs, takes_is}
+use Rattle.n41_moves.proofs.Puts.{PutIs, AgainBare, NewBare, NewOn, ByStep, ByEnd, put_of}
 use Rattle.n41_runs.specs.Steps.{message, messages}
 
 -- ---- the session that was made last

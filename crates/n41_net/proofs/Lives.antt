@@ -27,13 +27,13 @@ use Rattle.n41_model.specs.Kept.{Kept, May}
 use Rattle.n41_model.specs.Replies.{is_delay, is_wide_enough, delayed_or_breach, exchange_verdict, create_verdict, bind_verdict, destroy_session_verdict, destroy_client_verdict, bare_body_verdict, bare_verdict_of}
 use Rattle.n41_model.specs.Requests.{made, session_in, bare_verdict, is_bare, is_bare_use}
 use Rattle.n41_model.proofs.Slots.{seats}
-use Rattle.n41_once.proofs.Bares.{is_end}
-use Rattle.n41_once.proofs.Known.{known}
-use Rattle.n41_once.proofs.Moves.{takes_is}
-use Rattle.n41_once.proofs.Net.{Net, net, TakenIs, taken_is, put_message, put_fresh}
-use Rattle.n41_once.proofs.Said.{made_first}
-use Rattle.n41_once.proofs.Single.{Single, single, given, sid_in, or_made, still_finishing}
-use Rattle.n41_once.proofs.Suits.{session_same, session_itself}
+use Rattle.n41_moves.proofs.Bares.{is_end}
+use Rattle.n41_view.proofs.Known.{known}
+use Rattle.n41_moves.proofs.Moves.{takes_is}
+use Rattle.n41_net.proofs.Net.{Net, net, TakenIs, taken_is, put_message, put_fresh}
+use Rattle.n41_moves.proofs.Said.{made_first}
+use Rattle.n41_moves.proofs.Single.{Single, single, given, sid_in, or_made, still_finishing}
+use Rattle.n41_moves.proofs.Suits.{session_same, session_itself}
 use Rattle.n41_runs.specs.Rules.{IsNoReply, Sizes, Allowed, LegalBy, MayBeTaken, MayRepeat, MayMakeAgain, MayMake}
 use Rattle.n41_runs.specs.Server.{is_session, is_end_of, was_made, alive, slots_given, last_made, client_in, is_id}
 use Rattle.n41_runs.specs.Steps.{Step, Does, Takes, Runs, Repeats, Refuses, Names, Makes, Binds, Ends, client, message, messages, carrier, fate, ran_reply, refusal, refused_result, named_reply, made_reply, bound_reply, ended_reply}

@@ -17,25 +17,25 @@ use Rattle.n41_model.specs.Calls.{call, owner, command, number}
 use Rattle.n41_model.specs.Kept.{Kept, May, MayBegin, MayAnswer}
 use Rattle.n41_model.specs.Requests.{bares, first, out, rounds, heard}
 use Rattle.n41_model.proofs.Slots.{Seats, seats}
-use Rattle.n41_once.proofs.Chosen.{new_owner, owner_ready, bare_owner}
-use Rattle.n41_once.proofs.Found.{no_use}
-use Rattle.n41_once.proofs.Known.{Known, known}
-use Rattle.n41_once.proofs.Ledgers.{NewLedger, new_moves, again_moves, bare_moves}
-use Rattle.n41_once.proofs.Lists.{first_bare}
-use Rattle.n41_once.proofs.Moves.{puts_again, puts_new, again_out, bare_outs, TakesIs, takes_is}
-use Rattle.n41_once.proofs.Puts.{PutOf, PutIs, NewOn, put_of}
-use Rattle.n41_once.proofs.Said.{Said, said}
-use Rattle.n41_once.proofs.Single.{took_outs}
-use Rattle.n41_once.proofs.Suits.{is_bare_class}
-use Rattle.n41_once.proofs.Telling.{Waiting, waiting, new_class, is_given, given_idle, given_is, some_command, heard_zero}
-use Rattle.n41_once.proofs.Told.{Told, caller_of, named_is}
+use Rattle.n41_told.proofs.Chosen.{new_owner, owner_ready, bare_owner}
+use Rattle.n41_view.proofs.Found.{no_use}
+use Rattle.n41_view.proofs.Known.{Known, known}
+use Rattle.n41_told.proofs.Ledgers.{NewLedger, new_moves, again_moves, bare_moves}
+use Rattle.n41_view.proofs.Lists.{first_bare}
+use Rattle.n41_moves.proofs.Moves.{puts_again, puts_new, again_out, bare_outs, TakesIs, takes_is}
+use Rattle.n41_moves.proofs.Puts.{PutOf, PutIs, NewOn, put_of}
+use Rattle.n41_moves.proofs.Said.{Said, said}
+use Rattle.n41_moves.proofs.Single.{took_outs}
+use Rattle.n41_moves.proofs.Suits.{is_bare_class}
+use Rattle.n41_told.proofs.Telling.{Waiting, waiting, new_class, is_given, given_idle, given_is, some_command, heard_zero}
+use Rattle.n41_told.proofs.Told.{Told, caller_of, named_is}
 use Rattle.n41_model.specs.Answers.{UnknownCause, UnreachableCause}
 use Rattle.n41_model.specs.Text.{answer_to}
 use Rattle.n41_model.specs.declared.words.Sent.{Sent}
 use Rattle.n41_model.specs.declared.words.Sent.TheVariants.{Never, Waits, Delayed, Unbound}
 use Rattle.n41_model.specs.Requests.{doubt, sent, is_waiting}
-use Rattle.n41_once.proofs.Suits.{change_class}
-use Rattle.n41_once.proofs.Telling.{told}
+use Rattle.n41_moves.proofs.Suits.{change_class}
+use Rattle.n41_told.proofs.Telling.{told}
 use Rattle.n41_runs.specs.Good.{IsUnknown}
 
 -- the answers that are given in runs without opens

@@ -21,14 +21,14 @@ use Rattle.n41_model.specs.Kept.{Kept, May}
 use Rattle.n41_model.specs.Replies.{is_final, sequence_status}
 use Rattle.n41_model.specs.Requests.{request, bares, bare, bare_waits, outs, out, sent, made, is_bare, is_bare_use, is_on, standing, first, sent_after, moment}
 use Rattle.n41_model.proofs.Slots.{Seats, seats}
-use Rattle.n41_once.proofs.Fresh.{Placed, put_placed}
-use Rattle.n41_once.proofs.Found.{no_use, not_bare}
-use Rattle.n41_once.proofs.Known.{Known, known, put_out_bare}
-use Rattle.n41_once.proofs.Lists.{first_bare, one_bare, without_is}
-use Rattle.n41_once.proofs.Moves.{PutsAgain, puts_again, puts_new, again_out, new_out, bare_outs, bare_on_none, TakesOn, TakesBare, TakesIs, takes_is, took_out, took_sent, bare_took, bare_took_sent}
-use Rattle.n41_once.proofs.Puts.{PutIs, put_of}
-use Rattle.n41_once.proofs.Said.{Said, said, last_put, made_first, none_out}
-use Rattle.n41_once.proofs.Single.{Single, single}
+use Rattle.n41_view.proofs.Fresh.{Placed, put_placed}
+use Rattle.n41_view.proofs.Found.{no_use, not_bare}
+use Rattle.n41_view.proofs.Known.{Known, known, put_out_bare}
+use Rattle.n41_view.proofs.Lists.{first_bare, one_bare, without_is}
+use Rattle.n41_moves.proofs.Moves.{PutsAgain, puts_again, puts_new, again_out, new_out, bare_outs, bare_on_none, TakesOn, TakesBare, TakesIs, takes_is, took_out, took_sent, bare_took, bare_took_sent}
+use Rattle.n41_moves.proofs.Puts.{PutIs, put_of}
+use Rattle.n41_moves.proofs.Said.{Said, said, last_put, made_first, none_out}
+use Rattle.n41_moves.proofs.Single.{Single, single}
 use Rattle.n41_runs.specs.Rules.{IsNoReply, Sizes, Allowed, LegalBy, Pending, MayBeTaken, MayRepeat, MayMakeAgain}
 use Rattle.n41_runs.specs.Steps.{Step, Does, Takes, Runs, Repeats, Refuses, Names, Makes, Binds, Ends, client, message, messages, carrier, fate, taken, ran_reply, refusal, named_reply, made_reply, bound_reply, ended_reply}
 

@@ -31,20 +31,19 @@ use Rattle.n41_model.specs.Replies.{is_final, is_breach, is_bare_breach, verdict
 use Rattle.n41_model.specs.Requests.{bares, bare, bare_waits, made, first, out, rounds, heard, moment, verdict, bare_verdict, retried, is_bare, is_bare_use, standing}
 use Rattle.n41_model.specs.Sessions.{phase, phases, took_phase, slot_phase, bare_phase, dialed_phase, broke_phase, plan_of, session, client}
 use Rattle.n41_model.proofs.Slots.{Seats, seats}
-use Rattle.n41_once.proofs.Chosen.{bare_owner}
-use Rattle.n41_once.proofs.Fresh.{Placed, put_placed}
-use Rattle.n41_once.proofs.Found.{no_use}
-use Rattle.n41_once.proofs.Known.{Known, known, put_out_bare}
-use Rattle.n41_once.proofs.Ledgers.{held, again_moves, bare_moves, took_call_on, took_call_bare}
-use Rattle.n41_once.proofs.Lists.{first_bare}
-use Rattle.n41_once.proofs.Moves.{PutsAgain, puts_again, again_out, bare_outs, TakesOn, TakesBare, TakesIs, takes_is, took_out, bare_took}
-use Rattle.n41_once.proofs.Putting.{slot_is}
-use Rattle.n41_once.proofs.Puts.{PutOf, PutIs, ByStep, ByEnd, put_of}
-use Rattle.n41_once.proofs.Said.{Said, said, none_out, made_first}
-use Rattle.n41_once.proofs.Single.{Single, single, took_outs, took_bares}
-use Rattle.n41_once.proofs.Suits.{Suits, is_pause, is_bare_class}
+use Rattle.n41_told.proofs.Chosen.{bare_owner}
+use Rattle.n41_view.proofs.Fresh.{Placed, put_placed}
+use Rattle.n41_view.proofs.Found.{no_use}
+use Rattle.n41_view.proofs.Known.{Known, known, put_out_bare}
+use Rattle.n41_told.proofs.Ledgers.{held, again_moves, bare_moves, took_call_on, took_call_bare}
+use Rattle.n41_view.proofs.Lists.{first_bare}
+use Rattle.n41_moves.proofs.Moves.{PutsAgain, puts_again, again_out, bare_outs, TakesOn, TakesBare, TakesIs, takes_is, took_out, bare_took, slot_is}
+use Rattle.n41_moves.proofs.Puts.{PutOf, PutIs, ByStep, ByEnd, put_of}
+use Rattle.n41_moves.proofs.Said.{Said, said, none_out, made_first}
+use Rattle.n41_moves.proofs.Single.{Single, single, took_outs, took_bares}
+use Rattle.n41_moves.proofs.Suits.{Suits, is_pause, is_bare_class}
 use Rattle.n41_runs.specs.Effects.{CommandName, is_named, asked, command_on}
-use Rattle.n41_once.proofs.Told.{Told, GoesOn, SameFacts, caller_of, named_is, is_so_named, same_told, new_told}
+use Rattle.n41_told.proofs.Told.{Told, GoesOn, SameFacts, caller_of, named_is, is_so_named, same_told, new_told}
 
 -- ---- a reply to a request on a slot
 

@@ -20,13 +20,13 @@ use Rattle.n41_model.specs.Replies.{bare_verdict_of, is_final, gives_back, is_de
 use Rattle.n41_model.specs.Requests.{bares, outs, out, used, sent, sent_after, made, session_in, bare_verdict, is_bare, is_bare_use, is_on, standing, dials, rounds, moment}
 use Rattle.n41_model.specs.Sessions.{slots, slots_after}
 use Rattle.n41_model.proofs.Slots.{Seats, seats}
-use Rattle.n41_once.proofs.Bares.{is_create, may_be, may_be_so}
-use Rattle.n41_once.proofs.Found.{no_use, use_on}
-use Rattle.n41_once.proofs.Known.{Known, known}
-use Rattle.n41_once.proofs.Lists.{first_on, first_bare}
-use Rattle.n41_once.proofs.Moves.{PutsAgain, puts_again, puts_new, again_out, new_out, bare_outs, bare_on_none, TakesOn, TakesBare, TakesIs, takes_is, took_out, took_used, took_sent, bare_took, bare_took_used, bare_took_sent}
-use Rattle.n41_once.proofs.Puts.{PutOf, PutIs, NewOn, put_of}
-use Rattle.n41_once.proofs.Single.{Single, single, given, sid_in, or_made, took_outs}
+use Rattle.n41_moves.proofs.Bares.{is_create, may_be, may_be_so}
+use Rattle.n41_view.proofs.Found.{no_use, use_on}
+use Rattle.n41_view.proofs.Known.{Known, known}
+use Rattle.n41_view.proofs.Lists.{first_on, first_bare}
+use Rattle.n41_moves.proofs.Moves.{PutsAgain, puts_again, puts_new, again_out, new_out, bare_outs, bare_on_none, TakesOn, TakesBare, TakesIs, takes_is, took_out, took_used, took_sent, bare_took, bare_took_used, bare_took_sent}
+use Rattle.n41_moves.proofs.Puts.{PutOf, PutIs, NewOn, put_of}
+use Rattle.n41_moves.proofs.Single.{Single, single, given, sid_in, or_made, took_outs}
 use Rattle.n41_runs.specs.Steps.{message, messages, carrier}
 
 -- the last message that was put on a slot

@@ -22,14 +22,14 @@ use Rattle.n41_model.specs.declared.words.Verdict.{Verdict}
 use Rattle.n41_model.specs.declared.words.Verdict.TheVariants as v
 use Rattle.n41_model.specs.Replies.{verdict_of, body_verdict, refused_verdict, uncached_verdict, is_breach, is_delay, is_not_bound, is_size_refusal}
 use Rattle.n41_model.specs.Requests.{used, retried}
-use Rattle.n41_once.proofs.Known.{Known}
-use Rattle.n41_once.proofs.Lives.{Lives}
-use Rattle.n41_once.proofs.Net.{repeats_serves, refuses_serves, names_serves, makes_serves, binds_serves, ends_serves}
-use Rattle.n41_once.proofs.Said.{Said, last_put, slots_are}
-use Rattle.n41_once.proofs.Served.{Served, Says, SaysOn, IsOn, Ran, answers_served}
-use Rattle.n41_once.proofs.Single.{Single, given, sid_in}
-use Rattle.n41_once.proofs.Suits.{session_same}
-use Rattle.n41_once.proofs.Verdicts.{is_ran, is_dropped, is_too_big, dropped_verdict, dropped_is, refusal_verdict, delay_verdict, gone_verdict, unbound_verdict, size_verdict}
+use Rattle.n41_view.proofs.Known.{Known}
+use Rattle.n41_net.proofs.Lives.{Lives}
+use Rattle.n41_net.proofs.Net.{repeats_serves, refuses_serves, names_serves, makes_serves, binds_serves, ends_serves}
+use Rattle.n41_moves.proofs.Said.{Said, last_put, slots_are}
+use Rattle.n41_served.proofs.Served.{Served, Says, SaysOn, IsOn, Ran, answers_served}
+use Rattle.n41_moves.proofs.Single.{Single, given, sid_in}
+use Rattle.n41_moves.proofs.Suits.{session_same}
+use Rattle.n41_net.proofs.Verdicts.{is_ran, is_dropped, is_too_big, dropped_verdict, dropped_is, refusal_verdict, delay_verdict, gone_verdict, unbound_verdict, size_verdict}
 use Rattle.n41_runs.specs.Rules.{Sizes, Allowed, Pending, MayRepeat, MayMakeAgain, MayMake, slot_refuses, refuses_by, refuses, is_gone, is_bad_slot, is_misordered, is_out_of_turn, is_uncached_body}
 use Rattle.n41_runs.specs.Server.{last, kept, alive, was_made, is_session, is_end_of, is_bound, slots_given}
 use Rattle.n41_runs.specs.Steps.{Step, Repeats, Refuses, Names, Makes, Binds, Ends, client, message, carrier, fate, refusal, named_reply, made_reply, bound_reply, ended_reply}

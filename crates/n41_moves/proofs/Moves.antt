@@ -1,4 +1,5 @@
 -- What a request that is put, and a reply that is taken, make of the slots.
+use Rattle.n41_view.specs.Step.{has}
 use Rattle.std.proofs.Common.{◌≡◌, ◌≢◌, ◌⊎◌, inl, inr, ℕ, ◌-◌, ◌==◌, Bool, true, false, ◌&&◌, List, [], ◌∷◌, Option, Some, None, if◌then◌else◌, refl, sym, ◌∙◌, ap, subst, arith}
 use Rattle.std.proofs.lemmas.Bool.Decides.{nat_tests}
 use Rattle.std.specs.Prelude.{is_some}
@@ -15,15 +16,21 @@ use Rattle.n41_model.specs.Kept.{MayTake, IsAwaited, WaitsBare, WaitsOn}
 use Rattle.n41_model.specs.Replies.{is_final, gives_back, sequence_status}
 use Rattle.n41_model.specs.Requests.{request, bares, bare, bare_waits, outs, out, used, sent, sent_after, made, knows, is_on, is_use_of, is_bare, is_bare_use, without, first, moment}
 use Rattle.n41_model.proofs.Slots.{Seats}
-use Rattle.n41_once.proofs.Lists.{has, one_on, knows_is, without_is, first_on, first_bare}
-use Rattle.n41_once.proofs.Known.{Known}
-use Rattle.n41_once.proofs.Found.{no_use, use_on, fits_xid, found_bare, found_on, only_on, not_on}
-use Rattle.n41_once.proofs.Puts.{AgainOn, NewOn}
+use Rattle.n41_view.proofs.Lists.{one_on, knows_is, without_is, first_on, first_bare}
+use Rattle.n41_view.proofs.Known.{Known}
+use Rattle.n41_view.proofs.Found.{no_use, use_on, fits_xid, found_bare, found_on, only_on, not_on}
+use Rattle.n41_moves.proofs.Puts.{AgainOn, NewOn}
 
 -- ---- requests on slots
 
 pub on_place : (r : Request) (p : SlotUse) → r.slot ≡ Some p → (n : ℕ) → is_on r n ≡ (p.slot == n)
 on_place r p e n = ap (λ (o : Option SlotUse). is_use_of o n) e
+
+pub slot_is : (p : SlotUse) (n : ℕ) → (p.slot == n) ≡ true → p.slot ≡ n
+slot_is p n e = grind (arith, nat_tests, e)
+
+pub itself : (p : SlotUse) → (p.slot == p.slot) ≡ true
+itself p = grind (arith, nat_tests)
 
 -- a request that goes again on its slot
 pub record PutsAgain (js : List Event) (r : Request) (p : SlotUse) : Type 0 where
@@ -40,8 +47,8 @@ pub record PutsNew (js : List Event) (r : Request) (p : SlotUse) : Type 0 where
   pub known : knows (outs js p.slot) r.xid ≡ false
   pub on : (n : ℕ) → is_on r n ≡ (p.slot == n)
 
-itself : (r : Request) → has r.xid (Some r) ≡ true
-itself r = grind (arith, nat_tests)
+has_itself : (r : Request) → has r.xid (Some r) ≡ true
+has_itself r = grind (arith, nat_tests)
 
 knows_out : (js : List Event) (n : ℕ) (x : ℕ) → Seats js → knows (outs js n) x ≡ has x (out js n)
 knows_out js n x s = knows_is (outs js n) x (one_on n (outs js n) (s.on n))
@@ -55,7 +62,7 @@ puts_again js r s a =
         placed = u.1;
         is_out = subst (λ (n : ℕ). out js n ≡ Some r) (sym u.2) a.is_out;
         quiet = subst (λ (n : ℕ). sent js n ≢ Waits) (sym u.2) a.quiet;
-        known = subst (λ (n : ℕ). knows (outs js n) r.xid ≡ true) (sym u.2) (knows_out js a.slot r.xid s ∙ (ap (λ (o : Option Request). has r.xid o) a.is_out ∙ itself r));
+        known = subst (λ (n : ℕ). knows (outs js n) r.xid ≡ true) (sym u.2) (knows_out js a.slot r.xid s ∙ (ap (λ (o : Option Request). has r.xid o) a.is_out ∙ has_itself r));
         on = on_place r u.0 u.1;
       },
     )

@@ -14,10 +14,10 @@ use Rattle.n41_model.specs.declared.words.Sent.TheVariants.{Waits}
 use Rattle.n41_model.specs.declared.words.Setup.{Setup}
 use Rattle.n41_model.specs.Replies.{verdict_of, body_verdict, is_breach}
 use Rattle.n41_model.specs.Requests.{out, used, sent, retried, doubt}
-use Rattle.n41_once.proofs.Net.{Serves}
-use Rattle.n41_once.proofs.Said.{last_put}
-use Rattle.n41_once.proofs.Single.{Single, given, sid_in}
-use Rattle.n41_once.proofs.Verdicts.{is_ran, is_dropped, is_too_big}
+use Rattle.n41_net.proofs.Net.{Serves}
+use Rattle.n41_moves.proofs.Said.{last_put}
+use Rattle.n41_moves.proofs.Single.{Single, given, sid_in}
+use Rattle.n41_net.proofs.Verdicts.{is_ran, is_dropped, is_too_big}
 use Rattle.n41_runs.specs.Rules.{Sizes}
 use Rattle.n41_runs.specs.Server.{last, kept, alive}
 use Rattle.n41_runs.specs.Steps.{Step, client, message, fate}

@@ -22,7 +22,7 @@ use Rattle.n41_model.specs.Sessions.{session, slots, free_slot, is_free, is_empt
 use Rattle.n41_model.specs.Calls.{plan_next, is_ready}
 use Rattle.n41_model.specs.Due.{due, item_due, with_plan, on_free, on_free_slot, slot_request, bare_with, bare_due, bare_request, goes_again, finishing, is_dead, is_running, is_session, any_waits, any_own, step_plan, own_plan, own_plan_in, destroy_plan, may_retry, may_step, may_own, may_begin, may_destroy, is_open}
 use Rattle.n41_model.proofs.Tests.{and_true, not_true, only_if_some, empty_is, free_is}
-use Rattle.n41_once.proofs.Suits.{is_own}
+use Rattle.n41_moves.proofs.Suits.{is_own}
 
 -- the request without a slot goes again
 pub record AgainBare (js : List Event) (r : Request) : Type 0 where

@@ -16,12 +16,11 @@ use Rattle.n41_model.specs.Due.{is_dead}
 use Rattle.n41_model.specs.Requests.{bare, out, rounds}
 use Rattle.n41_model.specs.Sessions.{phase}
 use Rattle.n41_model.proofs.Slots.{Seats}
-use Rattle.n41_once.proofs.Chosen.{IsReady, new_owner, owner_ready, wants_chosen}
-use Rattle.n41_once.proofs.Ledgers.{NewLedger, SameLedger, held, new_moves}
-use Rattle.n41_once.proofs.Moves.{PutsNew, puts_new}
-use Rattle.n41_once.proofs.Putting.{slot_is, itself}
-use Rattle.n41_once.proofs.Puts.{PutOf, NewOn, ForCaller}
-use Rattle.n41_once.proofs.Suits.{Suits, is_own, is_bare_class, own_change, plan_itself}
+use Rattle.n41_told.proofs.Chosen.{IsReady, new_owner, owner_ready, wants_chosen}
+use Rattle.n41_told.proofs.Ledgers.{NewLedger, SameLedger, held, new_moves}
+use Rattle.n41_moves.proofs.Moves.{PutsNew, puts_new, slot_is, itself}
+use Rattle.n41_moves.proofs.Puts.{PutOf, NewOn, ForCaller}
+use Rattle.n41_moves.proofs.Suits.{Suits, is_own, is_bare_class, own_change, plan_itself}
 use Rattle.n41_runs.specs.Effects.{CommandName, is_named, asked, command_on, last_of, change_of}
 
 -- ---- names of commands

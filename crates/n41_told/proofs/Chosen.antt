@@ -13,7 +13,7 @@ use Rattle.n41_model.specs.declared.words.Phase.TheVariants.{Running}
 use Rattle.n41_model.specs.Calls.{Call, command, began_at, call, ledger, chosen, sooner, is_ready_call, is_plan, next_plan, in_running}
 use Rattle.n41_model.specs.Requests.{moment}
 use Rattle.n41_model.specs.Sessions.{phase, session, passed}
-use Rattle.n41_once.proofs.Suits.{Suits, is_bare_class, plan_suits}
+use Rattle.n41_moves.proofs.Suits.{Suits, is_bare_class, plan_suits}
 
 -- the caller is ready, and this is its next plan
 pub record Wants (js : List Event) (calls : ℕ → Call) (p : Plan) (d : ℕ) : Type 0 where
