@@ -1,6 +1,6 @@
 ghost use Rattle.std.specs.Prelude.{◌≡◌, ◌<◌, ◌≤◌, None, IfSome, IfNone};
 ghost use Rattle.n41_view.specs.Due.{has_ended_in, is_over_in};
-ghost use Rattle.n41_view.specs.Causes.{CauseIn, any_doubt};
+ghost use Rattle.n41_view.specs.Causes.{CauseIn, any_doubt, given_in};
 ghost use Rattle.n41_model.specs.Answers.{round_limit};
 ghost use Rattle.n41_model.specs.Due.{is_dead};
 
@@ -12,7 +12,7 @@ use n41_types::Answer;
 use n41_view::Seat;
 
 /// So many rounds in a row without a reply end a run.
-const ROUND_LIMIT: u64 = 16;
+pub(crate) const ROUND_LIMIT: u64 = 16;
 
 impl Lookup<'_> {
     /// Whether nothing is left to be put once all is answered.
@@ -37,10 +37,11 @@ impl Lookup<'_> {
         self.is_finishing() && self.is_over()
     }
 
-    /// The answer to an unanswered command where no reply is waited for any more: that a reply broke the rules; or once sixteen rounds
-    /// in a row had no reply, unknown where a changing request of the command is in doubt, and otherwise that the server could not be
-    /// reached. None exactly where no reply broke the rules and fewer rounds had none.
+    /// The answer to an unanswered command that has none yet where no reply is waited for any more: that a reply broke the rules; or
+    /// once sixteen rounds in a row had no reply, unknown where a changing request of the command is in doubt, and otherwise that the
+    /// server could not be reached. None exactly where no reply broke the rules and fewer rounds had none.
     pub fn answer_at_end(&self, seat: &Seat) -> Option<Answer>
+        requires { given_in self.now.facts.moment seat.now ≡ None }
         ensures some { IfSome result (λ a. CauseIn self.now seat.now a) }
         ensures none { IfNone result ((self.now.facts.breach_at ≡ None) × (self.now.facts.rounds < round_limit)) }
     {
@@ -50,7 +51,7 @@ impl Lookup<'_> {
         if self.facts.rounds < ROUND_LIMIT {
             return None;
         }
-        if any_doubt(self.slots, seat.caller) {
+        if seat.busy && any_doubt(self.slots, seat.caller) {
             Some(Answer::Unknown)
         } else {
             Some(Answer::Unreachable(ROUND_LIMIT))

@@ -174,7 +174,7 @@ impl Lookup<'_> {
     fn destroy_request(&self, setup: &Setup) -> Option<Request>
         ensures { result ≡ due_item setup.now self.now Item.Destroy }
     {
-        if !self.is_finishing() || self.bare.is_some() {
+        if !self.may_destroy() {
             return None;
         }
         match destroy_plan(self.facts.session, self.facts.client) {
