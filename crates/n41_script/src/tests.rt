@@ -99,6 +99,8 @@ fn commands_that_are_built_are_read(rt: HostRuntime) {
     let alloc = rt.alloc();
     for text in [
         b"a stat /a/b\n".as_slice(),
+        b"a list /\nb list /a/b\n".as_slice(),
+        b"a pause 0\na pause 600\n".as_slice(),
         b"a mkdir /a\na remove /a/b\n".as_slice(),
         b"a rename /a /b/c".as_slice(),
     ] {
@@ -108,7 +110,7 @@ fn commands_that_are_built_are_read(rt: HostRuntime) {
 
 #[test]
 fn lines_are_refused(rt: HostRuntime) {
-    let cases: [(&[u8], u64, LineKind); 25] = [
+    let cases: [(&[u8], u64, LineKind); 34] = [
         (b"\t", 1, LineKind::Byte),
         (b"\n\na\x7f", 3, LineKind::Byte),
         (b"a \x1fstat /", 1, LineKind::Byte),
@@ -123,9 +125,18 @@ fn lines_are_refused(rt: HostRuntime) {
         (b"owner x", 1, LineKind::Command),
         (b"a stat /\n\na", 3, LineKind::Command),
         (b"a creat \x01", 1, LineKind::Command),
-        (b"a list /", 1, LineKind::Command),
-        (b"a pause 1", 1, LineKind::Command),
         (b"a create f /a", 1, LineKind::Command),
+        (b"a new f /a", 1, LineKind::Command),
+        (b"a open f /a r", 1, LineKind::Command),
+        (b"a read f 0 1", 1, LineKind::Command),
+        (b"a close f", 1, LineKind::Command),
+        (b"a list", 1, LineKind::Words),
+        (b"a list / /", 1, LineKind::Words),
+        (b"a list a", 1, LineKind::Path),
+        (b"a pause", 1, LineKind::Words),
+        (b"a pause 601", 1, LineKind::Number),
+        (b"a pause -1", 1, LineKind::Number),
+        (b"a pause 1 1", 1, LineKind::Words),
         (b"a stat x", 1, LineKind::Path),
         (b"a stat /a//b", 1, LineKind::Path),
         (b"a mkdir /", 1, LineKind::Path),
