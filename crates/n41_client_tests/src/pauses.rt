@@ -1,8 +1,11 @@
 // Pauses, by the moments of a clock.
 
 use crate::journals::answered;
+use crate::messages::{Told, record, records};
 use crate::runs::{Outside, over, see};
-use crate::walks::all_around;
+use crate::walks::BEGIN;
+use n41_types::{Bytes, NoMemory};
+use std::alloc::Global;
 use std::test::Fail;
 
 /// A script, the moments of the clock, and those of the answers.
@@ -47,11 +50,22 @@ static CASES: [Case; 5] = [
     },
 ];
 
+/// The replies by which a session is made, then quiet for three reads, and then the replies by which it is given up.
+fn quiet_between(alloc: Global) -> Result<Vec<Bytes>, NoMemory> {
+    let mut pieces = records(alloc, &BEGIN)?;
+    for _ in 0..3 {
+        pieces.push(Bytes::new())?;
+    }
+    pieces.push(record(alloc, (5, Told::SessionGone))?)?;
+    pieces.push(record(alloc, (6, Told::ClientGone))?)?;
+    Ok(pieces)
+}
+
 #[test]
 fn a_pause_ends_with_its_seconds(rt: HostRuntime) -> Result<(), Fail> {
     let alloc = rt.alloc();
     for case in &CASES {
-        let pieces = all_around(alloc, &[])?;
+        let pieces = quiet_between(alloc)?;
         let links = [pieces.as_slice()];
         let outside = Outside {
             moments: case.moments,
@@ -61,6 +75,7 @@ fn a_pause_ends_with_its_seconds(rt: HostRuntime) -> Result<(), Fail> {
         assert_eq!(rt; seen.sink.bytes(), case.text);
         assert_eq!(rt; seen.status, 0);
         assert_eq!(rt; answered(alloc, &seen.journal)?.as_slice(), case.answered);
+        assert!(rt; seen.causes.is_empty());
     }
     Ok(())
 }
@@ -72,8 +87,8 @@ fn a_pause_of_no_seconds_is_over_at_once(rt: HostRuntime) -> Result<(), Fail> {
     assert_eq!(rt; seen.sink.bytes(), b"1 a paused\n".as_slice());
     assert_eq!(rt; seen.status, 0);
     assert_eq!(rt; answered(alloc, &seen.journal)?.as_slice(), [5].as_slice());
-    // No connection was asked for.
-    assert_eq!(rt; seen.dials, (0, 0));
+    // One dial was tried beside it, before no more commands came.
+    assert_eq!(rt; seen.dials, (0, 1));
     Ok(())
 }
 
