@@ -109,15 +109,18 @@ fn the_root_is_listed(rt: HostRuntime) -> Result<(), Fail> {
 #[test]
 fn a_listing_is_refused(rt: HostRuntime) -> Result<(), Fail> {
     let alloc = rt.alloc();
-    // What was listed before is not told.
-    for (parts, status, text) in [
-        (0, 20, b"1 a refused 20\n".as_slice()),
-        (1, 5, b"1 a refused 5\n".as_slice()),
-    ] {
-        let two: [Part; 1] = [(2, false)];
-        let mut replies = parts_of(alloc, &two[..parts])?;
-        let (xid, turn) = if parts == 0 { (6, 4) } else { (7, 5) };
-        replies.push((xid, Told::Unlisted(0, turn, status)))?;
+    let cases: [(&[Part], Says, &[u8]); 2] = [
+        (&[], (6, Told::Unlisted(0, 4, 20)), b"1 a refused 20\n"),
+        // What was listed before is not told.
+        (
+            &[(2, false)],
+            (7, Told::Unlisted(0, 5, 5)),
+            b"1 a refused 5\n",
+        ),
+    ];
+    for (parts, refusal, text) in cases {
+        let mut replies = parts_of(alloc, parts)?;
+        replies.push(refusal)?;
         let seen = list_over(&rt, alloc, &replies)?;
         assert_eq!(rt; seen.sink.bytes(), text);
         assert_eq!(rt; seen.status, 0);
@@ -138,7 +141,7 @@ fn thousands(alloc: Global, part: Part) -> Result<Vec<Part>, NoMemory> {
 /// The line of ten thousand names.
 fn ten_thousand(alloc: Global, more: bool) -> Result<String, NoMemory> {
     let mut text = String::from_str(alloc, "1 a names 10000")?;
-    for number in 1..=10000 {
+    for number in 1..=10_000u32 {
         text.push_str(&format!(in alloc; " f{number}")?)?;
     }
     text.push_str(if more { " more\n" } else { "\n" })?;

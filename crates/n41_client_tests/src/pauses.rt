@@ -65,6 +65,7 @@ fn quiet_between(alloc: Global) -> Result<Vec<Bytes>, NoMemory> {
 fn a_pause_ends_with_its_seconds(rt: HostRuntime) -> Result<(), Fail> {
     let alloc = rt.alloc();
     for case in &CASES {
+        assert!(rt; !case.moments.is_empty());
         let pieces = quiet_between(alloc)?;
         let links = [pieces.as_slice()];
         let outside = Outside {
