@@ -16,9 +16,9 @@ use Rattle.n41_view.specs.Due.{due_in}
 use Rattle.n41_view.specs.Laws.{DueFromView, EndFromView, OldFromView, AwaitedFromView}
 use Rattle.n41_view.specs.View.{View, view}
 use Rattle.n41_due.specs.Order.{IsNext}
-use Rattle.n41_due.specs.Wants.{WantIn}
-use Rattle.n41_due.specs.declared.wants.Want.{Want}
-use Rattle.n41_due.specs.declared.wants.Want.TheVariants as want
+use Rattle.n41_wants.specs.Wants.{WantIn}
+use Rattle.n41_wants.specs.declared.wants.Want.{Want}
+use Rattle.n41_wants.specs.declared.wants.Want.TheVariants as want
 use Rattle.n41_core.specs.Causes.{WantCause, ShapeCause, Unawaited, IsReplyTo}
 
 -- ---- what is due

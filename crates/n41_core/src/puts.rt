@@ -9,7 +9,7 @@ use crate::books::Books;
 use crate::client::Core;
 use crate::packet::Packet;
 use n41_journal::Event;
-use n41_requests::spell;
+use n41_spell::spell;
 use n41_tables::EventCopy;
 use n41_types::{NoMemory, Request};
 use n41_view::the_view_tells_what_is_due;
