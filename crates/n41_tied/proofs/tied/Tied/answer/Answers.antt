@@ -1,5 +1,5 @@
-use Rattle.std.proofs.Common.{◌≡◌, ◌∷◌, ◌-◌, Option, Some, refl, sym, ◌∙◌, ap, subst}
-use Rattle.std.specs.Option.{IsSome, option_or}
+use Rattle.std.proofs.Common.{◌≡◌, ◌∷◌, Option, refl, sym, ◌∙◌, ap, subst}
+use Rattle.std.specs.Option.{IsSome}
 use Rattle.n41_types.specs.declared.commands.Answer.{Answer}
 use Rattle.n41_journal.specs.declared.events.Event.TheVariants.{Answered}
 use Rattle.n41_journal.specs.Journal.{Log}
