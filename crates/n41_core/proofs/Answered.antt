@@ -1,12 +1,12 @@
 -- The answer that a command has.
 use Rattle.std.proofs.Common.{◌≡◌, inl, inr, ℕ, ◌<◌, Bool, true, false, Option, Some, None, IsSome, slice_get, if◌then◌else◌, refl, sym, ◌∙◌, ap, subst, arith}
-use Rattle.std.specs.Prelude.{is_none, is_some, nat_le, ◌-◌, IfSome}
+use Rattle.std.specs.Prelude.{is_none, is_some, nat_le, ◌-◌}
 use Rattle.n41_types.specs.declared.commands.Answer.{Answer}
 use Rattle.n41_types.specs.declared.commands.Answer.TheVariants as says
 use Rattle.n41_types.specs.declared.commands.Command.{Command}
 use Rattle.n41_types.specs.declared.commands.Command.TheVariants as asks
 use Rattle.n41_types.specs.declared.commands.Value.TheVariants as value
-use Rattle.n41_model.specs.Calls.{command, call, either, pause_given}
+use Rattle.n41_model.specs.Calls.{call, either, pause_given}
 use Rattle.n41_model.specs.Kept.{Kept, MayAnswer}
 use Rattle.n41_view.specs.Causes.{CauseIn, given_in}
 use Rattle.n41_view.specs.Laws.{CausesFromView}
