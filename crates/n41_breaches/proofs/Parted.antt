@@ -91,11 +91,11 @@ pub record Parted (u : Setup) (js : List Event) : Type 0 where
   pub id_none : (phases js).0 ≡ ClientId → client js ≡ None
   pub work_none : (phases js).1 ≡ ClientId → client js ≡ None
 
-or_left : (a c : Bool) → a ≡ true → (a || c) ≡ true
+pub or_left : (a c : Bool) → a ≡ true → (a || c) ≡ true
 or_left true c e = refl
 or_left false c e = absurd (true≢false (sym e))
 
-or_right : (a c : Bool) → c ≡ true → (a || c) ≡ true
+pub or_right : (a c : Bool) → c ≡ true → (a || c) ≡ true
 or_right true c e = refl
 or_right false c e = e
 
@@ -477,7 +477,7 @@ took_plain js y Dead w e (inl f) = absurd (cc)
 took_plain js y Dead w e (inr f) = absurd (cc)
 took_plain js y p w e f = rw e at f
 
-bare_gone : (js : List Event) (c k : ℕ) (y : Reply) (r : Request) → Seats js → TakesBare js y r → bare (Took c k y ∷ js) ≡ None
+pub bare_gone : (js : List Event) (c k : ℕ) (y : Reply) (r : Request) → Seats js → TakesBare js y r → bare (Took c k y ∷ js) ≡ None
 bare_gone js c k y r t b =
     let x = fits_xid r y b.fits in
     let h : has y.xid (bare js) ≡ true = ap (λ (q : Option Request). has y.xid q) b.is_out ∙ grind (arith, nat_tests, x) in
