@@ -1,3 +1,4 @@
 pub mod Parted
 pub mod Numbers
 pub mod Serving
+pub mod Standing

@@ -40,10 +40,10 @@ sid_some : (o : Option SessionMade) (i : SessionId) → sid_in o ≡ Some i → 
 sid_some None i e = absurd (cc)
 sid_some (Some m) i e = (m, refl, cc)
 
-same_test : (c : ℕ) → (c == c) ≡ true
+pub same_test : (c : ℕ) → (c == c) ≡ true
 same_test c = grind (arith, nat_tests)
 
-is_same : (c d : ℕ) → (c == d) ≡ true → c ≡ d
+pub is_same : (c d : ℕ) → (c == d) ≡ true → c ≡ d
 is_same c d e = grind (arith, nat_tests, e)
 
 -- ---- a refusal
@@ -78,7 +78,7 @@ refuses_clients u sizes w j r s m t v n c a = served_clients w (Refuses j r s) j
 
 -- ---- a client id is given
 
-other_id : (w : List Step) (i c : ℕ) → was_named w i ≡ false → was_named w c ≡ true → (i == c) ≡ false
+pub other_id : (w : List Step) (i c : ℕ) → was_named w i ≡ false → was_named w c ≡ true → (i == c) ≡ false
 other_id w i c e f = at (i == c) refl where
   at : (t : Bool) → (i == c) ≡ t → (i == c) ≡ false
   at true g = absurd (true≢false (sym f ∙ subst (λ (z : ℕ). was_named w z ≡ false) (is_same i c g) e))
@@ -112,7 +112,7 @@ new_says w j r i v o g e = says_by (Names j r i ∷ w) r (named_reply r i) (b.Na
       subst (λ (z : ℕ). Starts (Names j r i ∷ w) c z) f (subst (λ (z : ℕ). Starts (Names j r i ∷ w) z i.sequence) d (new_starts w j r i e))
 
 -- a confirmed client does not ask for an id
-no_again : (u : Setup) (w : List Step) (x : Request) (c : ℕ) → Parted u (client w) → States w → Clients w → bare (client w) ≡ Some x → is_exchange x.plan ≡ true → confirmed w ≡ Some c → ⊥
+pub no_again : (u : Setup) (w : List Step) (x : Request) (c : ℕ) → Parted u (client w) → States w → Clients w → bare (client w) ≡ Some x → is_exchange x.plan ≡ true → confirmed w ≡ Some c → ⊥
 no_again u w x c t n l e f h = by (l.kept_create c (n.confirmed_put c h)) (t.exchange_on x e f) where
   there : is_there w c ≡ true
   there = or_left (is_id (confirmed w) c) (is_id (unconfirmed w) c) (ap (λ (o : Option ℕ). is_id o c) h ∙ same_test c)
@@ -173,7 +173,7 @@ ended_id (Some d) p x e = at (is_id (client_in p) d) refl where
   at true f = rw f refl
   at false f = rw f e
 
-or_none : (a d : Bool) → (a || d) ≡ false → (a ≡ false) × (d ≡ false)
+pub or_none : (a d : Bool) → (a || d) ≡ false → (a ≡ false) × (d ≡ false)
 or_none true d e = absurd (true≢false e)
 or_none false d e = (refl, e)
 
