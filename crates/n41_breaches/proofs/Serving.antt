@@ -36,7 +36,7 @@ use Rattle.n41_runs.specs.Steps.{Step, Runs, Repeats, Refuses, Names, Makes, Bin
 abbrev pub BareIs : List Event → Type 0
 BareIs js = (q : Request) → bare js ≡ Some q → (message js (last_bare js) ≡ Some q) × (q.slot ≡ None)
 
-sid_some : (o : Option SessionMade) (i : SessionId) → sid_in o ≡ Some i → (m : SessionMade) × (o ≡ Some m) × (m.sid ≡ i)
+pub sid_some : (o : Option SessionMade) (i : SessionId) → sid_in o ≡ Some i → (m : SessionMade) × (o ≡ Some m) × (m.sid ≡ i)
 sid_some None i e = absurd (cc)
 sid_some (Some m) i e = (m, refl, cc)
 
