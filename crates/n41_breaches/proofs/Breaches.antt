@@ -1,5 +1,5 @@
 -- No reply that is taken in a legal run breaks the rules.
-use Rattle.std.proofs.Common.{◌≡◌, ◌≢◌, ◌⊎◌, inl, inr, ℕ, suc, Bool, true, false, List, [], ◌∷◌, Option, Some, None, if◌then◌else◌, refl, sym, ◌∙◌, ap, subst, true≢false}
+use Rattle.std.proofs.Common.{◌≡◌, ◌⊎◌, inl, inr, ℕ, Bool, true, false, List, [], ◌∷◌, Option, Some, None, refl, sym, ◌∙◌, ap, subst, true≢false}
 use Rattle.n41_types.specs.declared.identities.SessionId.{SessionId}
 use Rattle.n41_types.specs.declared.plans.Request.{Request}
 use Rattle.n41_types.specs.declared.plans.SlotUse.{SlotUse}
@@ -10,28 +10,28 @@ use Rattle.n41_journal.specs.declared.events.Event.TheVariants.{Began, Put, Took
 use Rattle.n41_model.specs.declared.words.BareVerdict.{BareVerdict}
 use Rattle.n41_model.specs.declared.words.Setup.{Setup}
 use Rattle.n41_model.specs.declared.words.Verdict.{Verdict}
-use Rattle.n41_model.specs.Answers.{breaks, place_or, breach_at}
-use Rattle.n41_model.specs.Kept.{Kept, May}
-use Rattle.n41_model.specs.Replies.{verdict_of, bare_verdict_of, is_breach, is_bare_breach}
-use Rattle.n41_model.specs.Requests.{request, bares, bare, retried, verdict, verdict_in, verdict_on, bare_verdict}
-use Rattle.n41_model.proofs.Slots.{Seats, seats}
+use Rattle.n41_model.specs.Answers.{breaks, breach_at}
+use Rattle.n41_model.specs.Kept.{Kept}
+use Rattle.n41_model.specs.Replies.{verdict_of, bare_verdict_of, is_breach}
+use Rattle.n41_model.specs.Requests.{bares, retried, verdict, verdict_in, verdict_on, bare_verdict}
+use Rattle.n41_model.proofs.Slots.{seats}
 use Rattle.n41_moves.proofs.Moves.{TakesOn, TakesBare, takes_is}
 use Rattle.n41_moves.proofs.Said.{last_put}
 use Rattle.n41_moves.proofs.Single.{Single, single, given}
 use Rattle.n41_net.proofs.Lives.{Lives, lives}
-use Rattle.n41_net.proofs.Net.{Net, net, last_bare, TakenIs, taken_is}
-use Rattle.n41_served.proofs.Served.{Served, SaysOn, IsOn}
+use Rattle.n41_net.proofs.Net.{net, last_bare, TakenIs, taken_is}
+use Rattle.n41_served.proofs.Served.{Served, SaysOn}
 use Rattle.n41_served.proofs.Taking.{served}
 use Rattle.n41_view.proofs.Found.{no_use}
 use Rattle.n41_view.proofs.Known.{known}
 use Rattle.n41_view.proofs.Lists.{first_bare}
-use Rattle.n41_breaches.proofs.Going.{does_clients, takes_clients, none_clients, verdict_bare, verdict_on_slot, taken_says}
+use Rattle.n41_breaches.proofs.Going.{does_clients, takes_clients, none_clients, verdict_bare, taken_says}
 use Rattle.n41_breaches.proofs.Numbers.{States, Clients, runs_clients, repeats_clients}
 use Rattle.n41_breaches.proofs.Parted.{Parted, parted, put_end}
 use Rattle.n41_breaches.proofs.Serving.{BareIs, sid_some, refuses_clients, names_clients, makes_clients, binds_clients, ends_clients}
 use Rattle.n41_breaches.proofs.Standing.{does_states, takes_states, runs_states, repeats_states, refuses_states, names_states, makes_states, binds_states, ends_states, none_states}
 use Rattle.n41_breaches.specs.Laws.{NoBreach}
-use Rattle.n41_runs.specs.Rules.{IsNoReply, Sizes, Allowed, Legal, LegalBy, MayBeTaken}
+use Rattle.n41_runs.specs.Rules.{IsNoReply, Sizes, LegalBy, MayBeTaken}
 use Rattle.n41_runs.specs.Server.{was_made, alive}
 use Rattle.n41_runs.specs.Steps.{Step, Does, Takes, Runs, Repeats, Refuses, Names, Makes, Binds, Ends, client, fate}
 

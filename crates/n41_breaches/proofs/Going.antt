@@ -1,6 +1,5 @@
 -- What the steps of the client do to the client ids.
-use Rattle.std.proofs.Common.{◌≡◌, ◌≢◌, ◌⊎◌, inl, inr, ℕ, ◌+◌, ◌==◌, ◌%◌, ◌^◌, Bool, true, false, ◌&&◌, ◌||◌, List, [], ◌∷◌, Option, Some, None, Ok, Err, if◌then◌else◌, refl, sym, ◌∙◌, ap, subst, arith, true≢false}
-use Rattle.std.proofs.lemmas.Bool.Decides.{nat_tests}
+use Rattle.std.proofs.Common.{◌≡◌, ◌≢◌, ◌⊎◌, inl, inr, ℕ, ◌==◌, Bool, true, false, ◌&&◌, List, [], ◌∷◌, Option, Some, None, Ok, Err, if◌then◌else◌, refl, sym, ◌∙◌, ap, subst, true≢false}
 use Rattle.n41_types.specs.declared.plans.Plan.{Plan}
 use Rattle.n41_types.specs.declared.plans.Plan.TheVariants as plan
 use Rattle.n41_types.specs.declared.plans.Request.{Request}
@@ -19,14 +18,14 @@ use Rattle.n41_model.specs.declared.words.KnownClient.{KnownClient}
 use Rattle.n41_model.specs.declared.words.Setup.{Setup}
 use Rattle.n41_model.specs.Kept.{May}
 use Rattle.n41_model.specs.Replies.{bare_verdict_of, bare_body_verdict, is_delay, is_wide_enough, delayed_or_breach, exchange_verdict, create_verdict, bind_verdict, destroy_session_verdict}
-use Rattle.n41_model.specs.Requests.{bare, bare_waits, made, session_in, bare_verdict, is_bare, is_bare_use}
+use Rattle.n41_model.specs.Requests.{bare, bare_waits, session_in, bare_verdict, is_bare, is_bare_use}
 use Rattle.n41_model.specs.Sessions.{client as client_id, client_after}
 use Rattle.n41_model.proofs.Slots.{Seats}
 use Rattle.n41_moves.proofs.Bares.{is_exchange, is_create, may_be, may_be_so}
-use Rattle.n41_moves.proofs.Moves.{TakesOn, TakesBare, TakesIs}
+use Rattle.n41_moves.proofs.Moves.{TakesOn, TakesBare}
 use Rattle.n41_moves.proofs.Single.{given, or_made, took_bares}
 use Rattle.n41_net.proofs.Net.{Net, TakenIs, last_bare, put_fresh, put_message}
-use Rattle.n41_view.proofs.Fresh.{Placed, put_placed}
+use Rattle.n41_view.proofs.Fresh.{put_placed}
 use Rattle.n41_view.proofs.Known.{Known, put_out_bare}
 use Rattle.n41_breaches.proofs.Parted.{Parted, put_drop, put_create, create_of, has_id, is_drop, or_right, bare_gone}
 use Rattle.n41_breaches.proofs.Numbers.{Starts, BareSays, Whereabouts, Clients, or_case, and_case}

@@ -1,5 +1,5 @@
 -- The client ids of a legal run, and the sequences of their sessions.
-use Rattle.std.proofs.Common.{◌≡◌, ◌≢◌, ◌⊎◌, inl, inr, ℕ, zero, suc, ◌+◌, ◌<◌, ◌≤◌, ◌==◌, ◌%◌, ◌^◌, Bool, true, false, ◌&&◌, ◌||◌, not, List, [], ◌∷◌, Option, Some, None, Ok, Err, if◌then◌else◌, refl, sym, ◌∙◌, ap, subst, arith, true≢false}
+use Rattle.std.proofs.Common.{◌≡◌, ◌≢◌, ◌⊎◌, inl, inr, ℕ, ◌+◌, ◌==◌, ◌%◌, ◌^◌, Bool, true, false, ◌&&◌, ◌||◌, not, List, [], ◌∷◌, Option, Some, None, if◌then◌else◌, refl, sym, ◌∙◌, ap, subst, arith, true≢false}
 use Rattle.std.proofs.lemmas.Bool.Decides.{nat_tests}
 use Rattle.std.specs.Prelude.{is_some, is_none}
 use Rattle.n41_types.specs.declared.identities.SessionId.{SessionId}
@@ -9,39 +9,23 @@ use Rattle.n41_types.specs.declared.plans.Request.{Request}
 use Rattle.n41_types.specs.declared.plans.SlotUse.{SlotUse}
 use Rattle.n41_types.specs.declared.statuses.Status.{Status}
 use Rattle.n41_results.specs.declared.replies.Reply.{Reply}
-use Rattle.n41_results.specs.declared.replies.ReplyBody.TheVariants.{Results}
 use Rattle.n41_results.specs.declared.results.Res.{Res}
-use Rattle.n41_results.specs.declared.results.Res.TheVariants as res
-use Rattle.n41_results.specs.declared.sessions.Bound.{Bound}
-use Rattle.n41_results.specs.declared.sessions.Identity.{Identity}
 use Rattle.n41_results.specs.declared.sessions.Sequenced.{Sequenced}
 use Rattle.n41_results.specs.declared.sessions.SessionMade.{SessionMade}
-use Rattle.n41_results.specs.Results.{ok}
-use Rattle.n41_journal.specs.declared.events.Event.{Event}
-use Rattle.n41_journal.specs.declared.events.Event.TheVariants.{Began, Put, Took, CbTook, CbPut, Dialed, DialFailed, Broke, Ticked, Answered, Quit}
 use Rattle.n41_model.specs.declared.words.BareVerdict.{BareVerdict}
 use Rattle.n41_model.specs.declared.words.BareVerdict.TheVariants as b
 use Rattle.n41_model.specs.declared.words.KnownClient.{KnownClient}
-use Rattle.n41_model.specs.declared.words.Setup.{Setup}
-use Rattle.n41_model.specs.Kept.{Kept, May}
-use Rattle.n41_model.specs.Replies.{bare_verdict_of, is_bare_breach, is_wide_enough, is_delay, is_ok, delayed_or_breach, exchange_verdict, create_verdict, bind_verdict}
-use Rattle.n41_model.specs.Requests.{bares, bare, bare_waits, made, session_in, bare_verdict, is_bare, is_bare_use, first}
-use Rattle.n41_model.specs.Sessions.{client as client_id, client_after, raised}
-use Rattle.n41_model.proofs.Slots.{Seats, seats}
-use Rattle.n41_moves.proofs.Bares.{is_exchange, is_create, is_end, may_be, may_be_so}
-use Rattle.n41_moves.proofs.Moves.{TakesOn, TakesBare, TakesIs, takes_is}
-use Rattle.n41_moves.proofs.Said.{Said, said}
-use Rattle.n41_moves.proofs.Single.{Single, single, given, sid_in, or_made, took_bares}
-use Rattle.n41_moves.proofs.Suits.{session_same, session_itself}
-use Rattle.n41_net.proofs.Lives.{Lives, lives}
-use Rattle.n41_net.proofs.Net.{Net, net, Serves, TakenIs, taken_is, last_bare, put_fresh, put_message, runs_serves, repeats_serves, refuses_serves, names_serves, makes_serves, binds_serves, ends_serves}
-use Rattle.n41_view.proofs.Found.{no_use}
-use Rattle.n41_view.proofs.Known.{Known, known}
-use Rattle.n41_view.proofs.Lists.{first_bare}
-use Rattle.n41_breaches.proofs.Parted.{Parted, parted, put_end, put_drop, put_create, create_of, has_id, is_drop}
-use Rattle.n41_runs.specs.Rules.{IsNoReply, Sizes, Allowed, LegalBy, Pending, MayBeTaken, MayRepeat, MayMakeAgain, MakesAgain, MayMake, MakesNext, MayName, NamesAgain, MayBind, MayEnd, EndsClient, plan_refuses, refuses_by, misorders, is_last, is_gone, is_misordered, is_stale}
-use Rattle.n41_runs.specs.Server.{is_id, client_in, unless_ended, was_named, confirmed, unconfirmed, is_there, next_sequence, last_made, was_made, alive, is_session, is_end_of, is_bind_of}
-use Rattle.n41_runs.specs.Steps.{Step, Does, Takes, Runs, Repeats, Refuses, Names, Makes, Binds, Ends, client, message, messages, carrier, fate, reply_to, ran_reply, refusal, refused_result, refusal_by, named_reply, made_reply, bound_reply, ended_reply}
+use Rattle.n41_model.specs.Replies.{bare_verdict_of, is_bare_breach, is_wide_enough, is_delay, delayed_or_breach}
+use Rattle.n41_model.specs.Requests.{bare, bare_waits}
+use Rattle.n41_model.specs.Sessions.{client as client_id}
+use Rattle.n41_moves.proofs.Bares.{is_create}
+use Rattle.n41_moves.proofs.Single.{given}
+use Rattle.n41_moves.proofs.Suits.{session_itself}
+use Rattle.n41_net.proofs.Net.{Serves, last_bare, runs_serves, repeats_serves}
+use Rattle.n41_breaches.proofs.Parted.{put_end, put_drop, put_create, create_of, has_id}
+use Rattle.n41_runs.specs.Rules.{Sizes, Allowed, MayRepeat, MayMakeAgain, plan_refuses, misorders, is_last, is_gone, is_misordered, is_stale}
+use Rattle.n41_runs.specs.Server.{was_named, confirmed, is_there, next_sequence, last_made, was_made, alive, is_bind_of}
+use Rattle.n41_runs.specs.Steps.{Step, Runs, Repeats, Names, client, message, fate, ran_reply, refusal, made_reply}
 
 -- the sequence with which a client id was given
 abbrev pub start : List Step → ℕ → ℕ

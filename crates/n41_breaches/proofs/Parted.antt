@@ -1,7 +1,7 @@
 -- What a kept journal says of the requests without a slot.
 use Rattle.std.proofs.Common.{◌≡◌, ◌≢◌, ◌⊎◌, inl, inr, ℕ, zero, suc, ◌+◌, ◌<◌, ◌≤◌, ◌==◌, Bool, true, false, ◌&&◌, ◌||◌, not, List, [], ◌∷◌, Option, Some, None, if◌then◌else◌, refl, sym, ◌∙◌, ap, subst, arith, true≢false}
 use Rattle.std.proofs.lemmas.Bool.Decides.{nat_tests}
-use Rattle.std.specs.Prelude.{is_some, nat_lt, nat_le}
+use Rattle.std.specs.Prelude.{nat_le}
 use Rattle.n41_types.specs.declared.identities.SessionId.{SessionId}
 use Rattle.n41_types.specs.declared.plans.Plan.{Plan}
 use Rattle.n41_types.specs.declared.plans.Plan.TheVariants as plan
@@ -17,23 +17,23 @@ use Rattle.n41_model.specs.declared.words.Item.{Item}
 use Rattle.n41_model.specs.declared.words.Item.TheVariants as item
 use Rattle.n41_model.specs.declared.words.KnownClient.{KnownClient}
 use Rattle.n41_model.specs.declared.words.Phase.{Phase}
-use Rattle.n41_model.specs.declared.words.Phase.TheVariants.{Down, Binding, Session, ClientId, Settling, Reclaiming, Completing, Running, Dead}
+use Rattle.n41_model.specs.declared.words.Phase.TheVariants.{Down, Binding, Session, ClientId, Completing, Running, Dead}
 use Rattle.n41_model.specs.declared.words.Sent.{Sent}
 use Rattle.n41_model.specs.declared.words.Sent.TheVariants.{Waits}
 use Rattle.n41_model.specs.declared.words.Setup.{Setup}
 use Rattle.n41_model.specs.declared.words.Verdict.{Verdict}
 use Rattle.n41_model.specs.declared.words.Verdict.TheVariants as v
-use Rattle.n41_model.specs.Due.{is_session, may_step, bare_with, bare_request, due, item_due, only_if, with_plan, finishing, is_open, any_waits, waits_from, may_retry, may_own, may_begin, may_destroy, bare_due, on_free_slot, step_plan, phase_plan, bind_in, create_in, own_plan, destroy_plan, destroy_in, goes_again, any_own, is_running}
+use Rattle.n41_model.specs.Due.{is_session, may_step, bare_with, bare_request, item_due, with_plan, finishing, is_open, any_waits, waits_from, may_retry, may_own, may_begin, may_destroy, bare_due, on_free_slot, step_plan, phase_plan, bind_in, create_in, own_plan, destroy_plan, destroy_in, goes_again, any_own, is_running}
 use Rattle.n41_model.specs.Calls.{plan_next, is_ready}
 use Rattle.n41_model.specs.Kept.{Kept, May}
-use Rattle.n41_model.specs.Replies.{bare_verdict_of, is_final, sequence_status}
-use Rattle.n41_model.specs.Requests.{bares, bare, bare_waits, outs, out, sent, sent_after, made, session_in, bare_verdict, verdict, is_bare, is_bare_use, is_on, is_waiting, moment, without, first}
+use Rattle.n41_model.specs.Replies.{sequence_status}
+use Rattle.n41_model.specs.Requests.{bares, bare, bare_waits, outs, out, sent, sent_after, bare_verdict, verdict, is_bare, is_bare_use, is_on, is_waiting, moment, first}
 use Rattle.n41_model.specs.Sessions.{session, client, client_after, slots, phase, phases, took_phase, slot_phase, bare_phase, worked, dialed_phase, broke_phase, plan_of, is_lease_time, is_empty, next_xid, passed, put_off, bound}
 use Rattle.n41_model.proofs.Slots.{Seats, seats}
 use Rattle.n41_model.proofs.Tests.{and_true, not_true, only_if_some}
-use Rattle.n41_moves.proofs.Bares.{is_exchange, is_create, is_end, may_be, may_be_so}
-use Rattle.n41_moves.proofs.Moves.{PutsAgain, PutsNew, puts_again, TakesOn, TakesBare, TakesIs, takes_is, bare_outs, took_sent, bare_took_sent, bare_on_none}
-use Rattle.n41_moves.proofs.Puts.{PutOf, PutIs, AgainBare, AgainOn, NewBare, NewOn, ByStep, ByEnd, put_of}
+use Rattle.n41_moves.proofs.Bares.{is_exchange, is_create, is_end}
+use Rattle.n41_moves.proofs.Moves.{puts_again, TakesBare, TakesIs, takes_is, took_sent, bare_took_sent, bare_on_none}
+use Rattle.n41_moves.proofs.Puts.{PutIs, AgainBare, NewBare, ByStep, ByEnd, put_of}
 use Rattle.n41_moves.proofs.Said.{Said, said, sent_after_not}
 use Rattle.n41_moves.proofs.Single.{Single, single, given, sid_in, or_made, still_finishing, is_making, took_bares}
 use Rattle.n41_moves.proofs.Suits.{session_same}
@@ -41,7 +41,7 @@ use Rattle.n41_net.proofs.Net.{last_bare}
 use Rattle.n41_view.proofs.Found.{no_use, use_on, fits_xid}
 use Rattle.n41_view.proofs.Fresh.{Placed, put_placed}
 use Rattle.n41_view.proofs.Known.{Known, known, put_out_bare}
-use Rattle.n41_view.proofs.Lists.{one_bare, one_on, first_bare, first_on, without_is}
+use Rattle.n41_view.proofs.Lists.{one_bare, first_bare, first_on, without_is}
 use Rattle.n41_view.specs.Step.{has}
 use Rattle.n41_runs.specs.Server.{is_bind_of}
 use Rattle.n41_runs.specs.Steps.{message, messages}

@@ -1,5 +1,5 @@
 -- What a step of the server does to the client ids.
-use Rattle.std.proofs.Common.{◌≡◌, ◌≢◌, ◌⊎◌, inl, inr, ℕ, zero, suc, ◌+◌, ◌==◌, ◌%◌, ◌^◌, Bool, true, false, ◌&&◌, ◌||◌, not, List, [], ◌∷◌, Option, Some, None, Ok, if◌then◌else◌, refl, sym, ◌∙◌, ap, subst, arith, true≢false}
+use Rattle.std.proofs.Common.{◌≡◌, ◌⊎◌, inl, inr, ℕ, ◌==◌, Bool, true, false, ◌&&◌, ◌||◌, List, ◌∷◌, Option, Some, None, if◌then◌else◌, refl, sym, ◌∙◌, ap, subst, arith, true≢false}
 use Rattle.std.proofs.lemmas.Bool.Decides.{nat_tests}
 use Rattle.std.specs.Prelude.{is_some, is_none}
 use Rattle.n41_types.specs.declared.identities.SessionId.{SessionId}
@@ -8,29 +8,25 @@ use Rattle.n41_types.specs.declared.plans.Plan.TheVariants as plan
 use Rattle.n41_types.specs.declared.plans.Request.{Request}
 use Rattle.n41_types.specs.declared.plans.SlotUse.{SlotUse}
 use Rattle.n41_types.specs.declared.statuses.Status.{Status}
-use Rattle.n41_results.specs.declared.replies.Reply.{Reply}
-use Rattle.n41_results.specs.declared.results.Res.{Res}
 use Rattle.n41_results.specs.declared.sessions.Bound.{Bound}
 use Rattle.n41_results.specs.declared.sessions.Identity.{Identity}
-use Rattle.n41_results.specs.declared.sessions.Sequenced.{Sequenced}
 use Rattle.n41_results.specs.declared.sessions.SessionMade.{SessionMade}
 use Rattle.n41_journal.specs.declared.events.Event.{Event}
-use Rattle.n41_journal.specs.declared.events.Event.TheVariants.{Began, Put, Took, CbTook, CbPut, Dialed, DialFailed, Broke, Ticked, Answered, Quit}
 use Rattle.n41_model.specs.declared.words.BareVerdict.TheVariants as b
 use Rattle.n41_model.specs.declared.words.KnownClient.{KnownClient}
 use Rattle.n41_model.specs.declared.words.Setup.{Setup}
-use Rattle.n41_model.specs.Replies.{bare_verdict_of, is_wide_enough}
-use Rattle.n41_model.specs.Requests.{bare, is_bare, is_bare_use}
+use Rattle.n41_model.specs.Replies.{bare_verdict_of}
+use Rattle.n41_model.specs.Requests.{bare}
 use Rattle.n41_model.specs.Sessions.{client as client_id}
-use Rattle.n41_moves.proofs.Bares.{is_exchange, is_end}
+use Rattle.n41_moves.proofs.Bares.{is_exchange}
 use Rattle.n41_moves.proofs.Single.{given, sid_in}
 use Rattle.n41_net.proofs.Lives.{Lives}
 use Rattle.n41_net.proofs.Net.{last_bare, refuses_serves, names_serves, makes_serves, binds_serves, ends_serves}
-use Rattle.n41_breaches.proofs.Parted.{Parted, put_end, put_drop, put_create, create_of, has_id, or_left, or_right}
-use Rattle.n41_breaches.proofs.Numbers.{start, Starts, BareSays, State, States, Whereabouts, Clients, Grows, Leaves, served_clients, says_by, says_made, says_moved, create_verdict_made, leaves_grow, refusal_says, or_case}
-use Rattle.n41_runs.specs.Rules.{Sizes, Allowed, NamesAgain, MayName, MakesNext, MayMake, MayBind, MayEnd, plan_refuses, refuses_by}
-use Rattle.n41_runs.specs.Server.{is_id, client_in, unless_ended, was_named, confirmed, unconfirmed, is_there, next_sequence, last_made, was_made, alive, is_session, is_end_of, is_bind_of}
-use Rattle.n41_runs.specs.Steps.{Step, Runs, Repeats, Refuses, Names, Makes, Binds, Ends, client, message, messages, refusal, named_reply, made_reply, bound_reply, ended_reply}
+use Rattle.n41_breaches.proofs.Parted.{Parted, put_end, put_drop, create_of, has_id, or_left, or_right}
+use Rattle.n41_breaches.proofs.Numbers.{start, Starts, BareSays, States, Whereabouts, Clients, Grows, served_clients, says_by, says_made, says_moved, create_verdict_made, leaves_grow, refusal_says}
+use Rattle.n41_runs.specs.Rules.{Sizes, Allowed, NamesAgain, MayName, MayMake, MayBind, MayEnd, plan_refuses, refuses_by}
+use Rattle.n41_runs.specs.Server.{is_id, client_in, unless_ended, was_named, confirmed, unconfirmed, is_there, was_made, alive, is_bind_of}
+use Rattle.n41_runs.specs.Steps.{Step, Refuses, Names, Makes, Binds, Ends, client, message, refusal, named_reply, made_reply, bound_reply, ended_reply}
 
 -- the request without a slot that is out is the last one that was put
 abbrev pub BareIs : List Event → Type 0

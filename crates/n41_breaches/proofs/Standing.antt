@@ -1,6 +1,5 @@
 -- The client ids that a server has, after each step.
-use Rattle.std.proofs.Common.{◌≡◌, ◌≢◌, ◌⊎◌, inl, inr, ℕ, zero, suc, ◌+◌, ◌==◌, ◌%◌, ◌^◌, Bool, true, false, ◌&&◌, ◌||◌, List, [], ◌∷◌, Option, Some, None, if◌then◌else◌, refl, sym, ◌∙◌, ap, subst, arith, true≢false}
-use Rattle.std.proofs.lemmas.Bool.Decides.{nat_tests}
+use Rattle.std.proofs.Common.{◌≡◌, ◌⊎◌, inl, inr, ℕ, ◌+◌, ◌==◌, ◌%◌, ◌^◌, Bool, true, false, ◌&&◌, ◌||◌, List, [], ◌∷◌, Option, Some, None, if◌then◌else◌, refl, sym, ◌∙◌, ap, subst, true≢false}
 use Rattle.std.specs.Prelude.{is_some, is_none}
 use Rattle.n41_types.specs.declared.identities.SessionId.{SessionId}
 use Rattle.n41_types.specs.declared.plans.Plan.{Plan}
@@ -21,9 +20,9 @@ use Rattle.n41_model.specs.Replies.{is_wide_enough}
 use Rattle.n41_model.specs.Requests.{is_bare, is_bare_use}
 use Rattle.n41_moves.proofs.Bares.{is_end}
 use Rattle.n41_breaches.proofs.Parted.{put_end, put_create, create_of, has_id, or_left, or_right}
-use Rattle.n41_breaches.proofs.Numbers.{start, Starts, State, States, Clients, or_case, and_case}
+use Rattle.n41_breaches.proofs.Numbers.{start, State, States, Clients, or_case}
 use Rattle.n41_breaches.proofs.Serving.{same_test, is_same, other_id, or_none}
-use Rattle.n41_runs.specs.Rules.{Sizes, Allowed, NamesAgain, MayName, MakesNext, MayMake}
+use Rattle.n41_runs.specs.Rules.{Sizes, Allowed, MayName, MakesNext, MayMake}
 use Rattle.n41_runs.specs.Server.{is_id, client_in, unless_ended, was_named, confirmed, unconfirmed, is_there, next_sequence, last_made, was_made, alive, is_session, is_end_of}
 use Rattle.n41_runs.specs.Steps.{Step, Does, Takes, Runs, Repeats, Refuses, Names, Makes, Binds, Ends, client, message, messages}
 
