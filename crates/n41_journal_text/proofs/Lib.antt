@@ -1,7 +1,9 @@
 pub mod Plain
 pub mod Says
-pub mod Messages
+pub mod Filled
 pub mod Commands
 pub mod Told
 pub mod Lines
 pub mod Reversed
+pub mod Names
+pub mod Turns

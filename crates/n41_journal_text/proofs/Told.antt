@@ -24,7 +24,7 @@ use Rattle.n41_journal_text.specs.Text.{cause_text, answer_text, message_text, e
 use Rattle.n41_journal_text.specs.Words.{cause_words, end_word, more_words, value_words, answer_words, message_words, event_words, IsSaid, IsToldName, IsLegibleValue, IsLegibleAnswer, IsLegibleCause, IsPlaced, IsLegible}
 use Rattle.n41_journal_text.proofs.Plain.{decimal_plain, optional_plain, mode_plain, hex_plain, data_plain, name_plain}
 use Rattle.n41_journal_text.proofs.Says.{Says, AreTold, says_one, says_more, says_as}
-use Rattle.n41_journal_text.proofs.Messages.{request_some, reply_some, callback_some, callback_reply_some}
+use Rattle.n41_journal_text.proofs.Filled.{request_some, reply_some, callback_some, callback_reply_some}
 use Rattle.n41_journal_text.proofs.Commands.{command_says}
 
 -- a word that is written out

@@ -129,3 +129,22 @@ IsLegible (event.Broke conn cause) = (conn < 2 ^ 64) × IsLegibleCause cause
 IsLegible (event.Ticked moment) = moment < 2 ^ 64
 IsLegible (event.Answered caller number a) = (caller < 2 ^ 32) × (number < 2 ^ 64) × IsLegibleAnswer a
 IsLegible _ = Unit {0}
+
+-- ---- what no type says of an event
+
+abbrev pub IsFull : List ℕ → Type 0
+IsFull name = name ≢ []
+
+abbrev pub HasFullNames : Value → Type 0
+HasFullNames (value.Names names more) = All IsFull names
+HasFullNames _ = Unit {0}
+
+abbrev pub IsSayableAnswer : Answer → Type 0
+IsSayableAnswer (says.Done x) = HasFullNames x
+IsSayableAnswer _ = Unit {0}
+
+-- its command is one that words say, and each name in its answer has a byte
+abbrev pub IsSayable : Event → Type 0
+IsSayable (event.Began caller number c moment) = IsSaid c
+IsSayable (event.Answered caller number a) = IsSayableAnswer a
+IsSayable _ = Unit {0}

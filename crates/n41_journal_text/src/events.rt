@@ -2,10 +2,13 @@
 ghost use Rattle.std.specs.Prelude.{◌≡◌, ◌++◌, OnOk};
 ghost use Rattle.n41_journal.specs.declared.events.Event.TheVariants as event;
 ghost use Rattle.n41_tellable.specs.Tellable.{IsTellable};
-ghost use Rattle.n41_journal_text.specs.Text.{cause_text, answer_text, event_text, event_line};
+ghost use Rattle.n41_journal_text.specs.Text.{cause_text, answer_text, message, event_text, event_line};
+ghost use Rattle.n41_journal_text.specs.Words.{IsLegible, IsSayable};
+ghost use Rattle.hex.specs.Hex.{IsBytes};
 
 use crate::messages::{put_callback, put_callback_reply, put_reply, put_request};
 use crate::numbered::{put_numbered, put_pair};
+use crate::typed::event_is_typed;
 use n41_journal::{Cause, Event};
 use n41_report::{put, put_answer, put_decimal};
 use n41_types::{Answer, Command, NoMemory};
@@ -74,7 +77,8 @@ fn put_answered(
 
 fn put_event(alloc: Global, out: &mut Vec<u8>, event: &Event) -> Result<(), NoMemory>
     requires { IsTellable event.now }
-    ensures { OnOk result (out.new.items ≡ out.old.items ++ event_text event.now) }
+    ensures told { OnOk result (out.new.items ≡ out.old.items ++ event_text event.now) }
+    ensures bytes { OnOk result (IsBytes (message event.now)) }
 {
     match event {
         Event::Began {
@@ -109,8 +113,10 @@ fn put_event(alloc: Global, out: &mut Vec<u8>, event: &Event) -> Result<(), NoMe
 /// Adds the line of an event.
 pub(crate) fn put_line(alloc: Global, out: &mut Vec<u8>, event: &Event) -> Result<(), NoMemory>
     requires { IsTellable event.now }
-    ensures { OnOk result (out.new.items ≡ out.old.items ++ event_line event.now) }
+    ensures told { OnOk result (out.new.items ≡ out.old.items ++ event_line event.now) }
+    ensures legible { OnOk result (IsSayable event.now → IsLegible event.now) }
 {
+    event_is_typed(event);
     put_event(alloc, out, event)?;
     put(out, "\n")
 }

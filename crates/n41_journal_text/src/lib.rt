@@ -8,6 +8,7 @@ mod numbered;
 #[cfg(test)]
 mod tests;
 mod text;
+mod typed;
 
 pub use laws::{each_event_is_a_line, lines_have_their_words};
 pub use text::journal_text;

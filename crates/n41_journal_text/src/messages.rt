@@ -1,6 +1,6 @@
 // What happened to a message. Each call adds it at the end of a text.
 ghost use Rattle.std.specs.Prelude.{◌≡◌, ◌++◌, codes, OnOk};
-ghost use Rattle.hex.specs.Hex.{encode_lower};
+ghost use Rattle.hex.specs.Hex.{IsBytes, encode_lower};
 ghost use Rattle.n41_requests.specs.Requests as requests;
 ghost use Rattle.n41_replies.specs.Replies as replies;
 ghost use Rattle.n41_cbmsg.specs.Calls.{CallFits, written_call};
@@ -8,10 +8,11 @@ ghost use Rattle.n41_cbmsg.specs.Answers.{AnswerFits, written_answer};
 ghost use Rattle.n41_journal_text.specs.Text.{message_text};
 
 use crate::numbered::put_pair;
+use crate::typed::are_bytes;
 use n41_cbmsg::{spell_answer, spell_call};
 use n41_replies::spell_reply;
 use n41_report::put;
-use n41_requests::spell;
+use n41_spell::spell;
 use n41_results::{CbCall, CbReply, Reply};
 use n41_types::{NoMemory, Request};
 use std::alloc::Global;
@@ -32,8 +33,10 @@ fn put_message(
     place: u64,
     bytes: &[u8],
 ) -> Result<(), NoMemory>
-    ensures { OnOk result (out.new.items ≡ out.old.items ++ message_text what.now conn place bytes.now) }
+    ensures told { OnOk result (out.new.items ≡ out.old.items ++ message_text what.now conn place bytes.now) }
+    ensures bytes { IsBytes bytes.now }
 {
+    are_bytes(bytes);
     put_pair(alloc, out, what, conn, place)?;
     put_hex(alloc, out, bytes)
 }
@@ -46,7 +49,8 @@ pub(crate) fn put_request(
     request: &Request,
 ) -> Result<(), NoMemory>
     requires { requests.IsSpellable request.now }
-    ensures { OnOk result (out.new.items ≡ out.old.items ++ message_text (codes "put") conn place (requests.spelled request.now)) }
+    ensures told { OnOk result (out.new.items ≡ out.old.items ++ message_text (codes "put") conn place (requests.spelled request.now)) }
+    ensures bytes { OnOk result (IsBytes (requests.spelled request.now)) }
 {
     let bytes = spell(alloc, request)?;
     put_message(alloc, out, "put", conn, place, bytes.as_slice())
@@ -60,7 +64,8 @@ pub(crate) fn put_reply(
     reply: &Reply,
 ) -> Result<(), NoMemory>
     requires { replies.IsSpellable reply.now }
-    ensures { OnOk result (out.new.items ≡ out.old.items ++ message_text (codes "took") conn place (replies.written reply.now)) }
+    ensures told { OnOk result (out.new.items ≡ out.old.items ++ message_text (codes "took") conn place (replies.written reply.now)) }
+    ensures bytes { OnOk result (IsBytes (replies.written reply.now)) }
 {
     let bytes = spell_reply(alloc, reply)?;
     put_message(alloc, out, "took", conn, place, bytes.as_slice())
@@ -75,7 +80,8 @@ pub(crate) fn put_callback(
     call: &CbCall,
 ) -> Result<(), NoMemory>
     requires { CallFits call.now }
-    ensures { OnOk result (out.new.items ≡ out.old.items ++ message_text (codes "cbtook") conn place (written_call call.now)) }
+    ensures told { OnOk result (out.new.items ≡ out.old.items ++ message_text (codes "cbtook") conn place (written_call call.now)) }
+    ensures bytes { OnOk result (IsBytes (written_call call.now)) }
 {
     let bytes = spell_call(alloc, call)?;
     put_message(alloc, out, "cbtook", conn, place, bytes.as_slice())
@@ -90,7 +96,8 @@ pub(crate) fn put_callback_reply(
     reply: &CbReply,
 ) -> Result<(), NoMemory>
     requires { AnswerFits reply.now }
-    ensures { OnOk result (out.new.items ≡ out.old.items ++ message_text (codes "cbput") conn place (written_answer reply.now)) }
+    ensures told { OnOk result (out.new.items ≡ out.old.items ++ message_text (codes "cbput") conn place (written_answer reply.now)) }
+    ensures bytes { OnOk result (IsBytes (written_answer reply.now)) }
 {
     let bytes = spell_answer(alloc, reply)?;
     put_message(alloc, out, "cbput", conn, place, bytes.as_slice())

@@ -2,6 +2,7 @@
 ghost use Rattle.std.specs.Prelude.{◌≡◌, ◌++◌, All, reverse, IfOk, OnOk};
 ghost use Rattle.n41_tellable.specs.Tellable.{IsTellable, AllTellable};
 ghost use Rattle.n41_journal_text.specs.Text.{journal_lines};
+ghost use Rattle.n41_journal_text.specs.Words.{IsLegible, IsSayable};
 
 use crate::events::put_line;
 use n41_journal::{Event, Journal};
@@ -11,7 +12,8 @@ use std::alloc::Global;
 /// Adds the lines of events, of which the oldest comes first.
 fn put_lines(alloc: Global, out: &mut Vec<u8>, events: &[Event]) -> Result<(), NoMemory>
     requires { All IsTellable events.now }
-    ensures { OnOk result (out.new.items ≡ out.old.items ++ journal_lines events.now) }
+    ensures told { OnOk result (out.new.items ≡ out.old.items ++ journal_lines events.now) }
+    ensures legible { OnOk result (All IsSayable events.now → All IsLegible events.now) }
 {
     for event in events {
         put_line(alloc, out, event)?;
@@ -24,7 +26,9 @@ fn put_lines(alloc: Global, out: &mut Vec<u8>, events: &[Event]) -> Result<(), N
 #[tactic(auto, using(crate::proofs::Reversed::all_reversed))]
 pub fn journal_text(alloc: Global, journal: &Journal) -> Result<Bytes, NoMemory>
     requires { AllTellable journal.now.events }
-    ensures { IfOk result (λ text. text ≡ journal_lines (reverse journal.now.events)) }
+    ensures told { IfOk result (λ text. text ≡ journal_lines (reverse journal.now.events)) }
+    // A reader may rely on each event, where its command is one that words say and the names in its answer have bytes.
+    ensures legible { OnOk result (All IsSayable (reverse journal.now.events) → All IsLegible (reverse journal.now.events)) }
 {
     let mut out = Vec::new(alloc);
     put_lines(alloc, &mut out, journal.as_slice())?;

@@ -2,11 +2,6 @@ ghost use Rattle.std.specs.Prelude.{◌≡◌, ℕ, List, Ok};
 ghost use Rattle.n41_xdr.specs.Lawful.{IsBytes};
 ghost use Rattle.n41_results.specs.declared.replies.Reply.{Reply};
 ghost use Rattle.n41_replies.specs.Replies.{reply_at, IsSpellable, Spells};
-ghost use Rattle.n41_cbmsg.specs.Calls as callbacks;
-ghost use Rattle.n41_cbmsg.specs.Answers as answers;
-ghost use Rattle.n41_results.specs.declared.callbacks.CbCall.{CbCall};
-ghost use Rattle.n41_results.specs.declared.callbacks.CbReply.{CbReply};
-ghost use Rattle.n41_tellable.specs.Tellable.{IsTellable, AllTellable};
 
 /// A law: a reply that was read can be written.
 pub fn replies_that_are_read_are_tellable()
