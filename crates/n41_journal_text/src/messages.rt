@@ -12,8 +12,8 @@ use crate::typed::are_bytes;
 use n41_cbmsg::{spell_answer, spell_call};
 use n41_replies::spell_reply;
 use n41_report::put;
-use n41_spell::spell;
 use n41_results::{CbCall, CbReply, Reply};
+use n41_spell::spell;
 use n41_types::{NoMemory, Request};
 use std::alloc::Global;
 
