@@ -35,6 +35,11 @@ fn all_are_u64(number: Option<u64>)
     }
 }
 
+fn is_place(conn: u64, place: u64)
+    ensures conn { conn < 2 ^ 64 }
+    ensures place { place < 2 ^ 64 }
+{}
+
 fn names_are_bytes(names: &[Bytes])
     ensures { All IsBytes names.now }
 {
@@ -111,13 +116,10 @@ pub(crate) fn event_is_typed(event: &Event)
             is_u64(*number);
             is_u64(*moment);
         }
-        Event::Put { conn, place, .. }
-        | Event::Took { conn, place, .. }
-        | Event::CbTook { conn, place, .. }
-        | Event::CbPut { conn, place, .. } => {
-            is_u64(*conn);
-            is_u64(*place);
-        }
+        Event::Put { conn, place, .. } => is_place(*conn, *place),
+        Event::Took { conn, place, .. } => is_place(*conn, *place),
+        Event::CbTook { conn, place, .. } => is_place(*conn, *place),
+        Event::CbPut { conn, place, .. } => is_place(*conn, *place),
         Event::Dialed { conn } => is_u64(*conn),
         Event::Broke { conn, cause } => {
             is_u64(*conn);
