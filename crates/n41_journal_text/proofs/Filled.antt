@@ -1,5 +1,5 @@
 -- No message is empty.
-use Rattle.std.proofs.Common.{◌≡◌, ◌≢◌, ◌<◌, ◌+◌, ℕ, List, [], ◌∷◌, ◌++◌, length, arith, refl, ap, length-append}
+use Rattle.std.proofs.Common.{◌≢◌, ℕ, List, [], ◌++◌, length, arith, ap, length-append}
 use Rattle.n41_xdr.specs.Spelling as spelling
 use Rattle.n41_requests.specs.Requests.{spelled}
 use Rattle.n41_requests.proofs.Lengths.{word_length}

@@ -1,6 +1,6 @@
 -- The lines of a text.
 use Rattle.std.proofs.Common.{◌≡◌, ◌==◌, ℕ, Bool, true, false, List, [], ◌∷◌, ◌++◌, map, All, arith, refl, ap, ◌∙◌, sym, subst, inl, inr, append_assoc}
-use Rattle.std.specs.List.{list_any, flat_map}
+use Rattle.std.specs.List.{list_any}
 use Rattle.std.proofs.lemmas.Bool.{cases_Bool, or_from, or_parts}
 use Rattle.std.proofs.lemmas.Bool.Decides.{nat_tests}
 use Rattle.std.proofs.lemmas.List.Elements.{All-nil, All-cons, All-head, All-tail}
@@ -8,9 +8,9 @@ use Rattle.n41_journal.specs.declared.events.Event.{Event}
 use Rattle.n41_journal.specs.declared.events.Event.TheVariants as event
 use Rattle.n41_words.specs.Lines.{lines, words, onto_first, is_space, word_begins, is_empty, begins_with, is_skipped}
 use Rattle.n41_words.specs.Words.{is_control, has_control}
-use Rattle.n41_journal_text.specs.Text.{event_text, event_line, journal_lines}
+use Rattle.n41_journal_text.specs.Text.{event_text, journal_lines}
 use Rattle.n41_journal_text.specs.Words.{event_words, IsClean, IsLegible}
-use Rattle.n41_journal_text.proofs.Says.{Says, AreTold}
+use Rattle.n41_journal_text.proofs.Says.{AreTold}
 use Rattle.n41_journal_text.proofs.Told.{event_says}
 
 abbrev ends_line : ℕ → Bool

@@ -1,20 +1,18 @@
 -- Words that are written are plain: they have a byte, no space and no control.
-use Rattle.std.proofs.Common.{◌≡◌, ◌≢◌, ◌<◌, ◌≤◌, ◌-◌, ◌^◌, ◌==◌, ◌&&◌, ◌||◌, not, ℕ, zero, suc, Bool, true, false, List, [], ◌∷◌, ◌++◌, length, replicate, Option, Some, None, Result, Ok, Err, if◌then◌else◌, nat_le, nat_lt, arith, refl, ap, ◌∙◌, sym, subst, inl, inr, length-append}
+use Rattle.std.proofs.Common.{◌≡◌, ◌≢◌, ◌<◌, ◌≤◌, ◌-◌, ◌^◌, ◌==◌, ◌&&◌, ◌||◌, not, ℕ, zero, suc, Bool, true, false, List, [], ◌∷◌, ◌++◌, length, replicate, Option, Some, None, Ok, Err, if◌then◌else◌, nat_le, nat_lt, arith, refl, inl, inr, length-append}
 use Rattle.std.specs.Prelude.{IfSome}
 use Rattle.std.specs.Fmt.{decimal, digits}
-use Rattle.std.specs.List.{list_all, list_any, flat_map}
+use Rattle.std.specs.List.{list_all, list_any}
 use Rattle.std.proofs.lemmas.Bool.{cases_Bool, and_parts, or_from, or_parts, leb-true}
 use Rattle.std.proofs.lemmas.Bool.Decides.{nat_tests}
-use Rattle.std.proofs.lemmas.List.Concat.{flat_map-cons}
-use Rattle.std.proofs.lemmas.List.Folds.{list_any-append}
 use Rattle.std.proofs.lemmas.List.Sums.{list_all-from_AllPass}
-use Rattle.hex.specs.Hex.{IsBytes, encode_lower, encode_upper, decode_of, is_hex_digit}
+use Rattle.hex.specs.Hex.{IsBytes, encode_lower, encode_upper, is_hex_digit}
 use Rattle.hex.proofs.HexLemmas.{decode_of-encode_lower, decode_of-encode_upper, decode_of-ok}
 use Rattle.n41_words.specs.Lines.{is_empty, is_space}
 use Rattle.n41_words.specs.Words.{is_control, has_control}
-use Rattle.n41_words.specs.Numbers.{number, octal, is_digit, is_decimal, is_octal, spelled}
+use Rattle.n41_words.specs.Numbers.{is_digit, is_decimal, is_octal, spelled}
 use Rattle.n41_words.specs.declared.fault.LineKind.{LineKind}
-use Rattle.n41_written.proofs.Words.{IsWord, IsPlain}
+use Rattle.n41_written.proofs.Words.{IsPlain}
 use Rattle.n41_written.proofs.ReadBack.{decimal_read, octal_read}
 use Rattle.n41_model.specs.Text.{hex_or_dash, decimal_or_dash, mode_text, name_byte, name_text}
 

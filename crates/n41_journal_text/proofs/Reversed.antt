@@ -1,5 +1,5 @@
 -- What holds of each element holds of each from the other end.
-use Rattle.std.proofs.Common.{◌≡◌, List, [], ◌∷◌, ◌++◌, All, reverse, sym, subst}
+use Rattle.std.proofs.Common.{List, [], ◌∷◌, All, reverse, sym, subst}
 use Rattle.std.proofs.lemmas.List.{reverse-append}
 use Rattle.std.proofs.lemmas.List.Elements.{All-nil, All-head, All-tail, All-push}
 

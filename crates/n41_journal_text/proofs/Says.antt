@@ -1,10 +1,9 @@
 -- Texts and their words.
-use Rattle.std.proofs.Common.{◌≡◌, ℕ, false, List, [], ◌∷◌, ◌++◌, refl, ap, ◌∙◌, sym, subst, append_assoc}
-use Rattle.std.specs.Prelude.{codes}
+use Rattle.std.proofs.Common.{◌≡◌, ℕ, false, List, [], ◌∷◌, ap, ◌∙◌, sym, subst}
 use Rattle.n41_words.specs.Lines.{words}
 use Rattle.n41_words.specs.Words.{has_control}
 use Rattle.n41_written.specs.Written.{◌·◌}
-use Rattle.n41_written.proofs.Words.{IsWord, IsPlain, first_words, last_words}
+use Rattle.n41_written.proofs.Words.{IsPlain, first_words, last_words}
 
 abbrev pub AreTold : List (List ℕ) → Type 0
 AreTold [] = Unit {0}

@@ -1,5 +1,5 @@
 -- The words of each event.
-use Rattle.std.proofs.Common.{◌≡◌, ◌<◌, ◌^◌, ℕ, Bool, true, false, List, [], ◌∷◌, ◌++◌, length, map, All, Option, arith, refl, ap, ◌∙◌, sym, append_assoc}
+use Rattle.std.proofs.Common.{◌≡◌, ◌<◌, ◌^◌, ℕ, Bool, true, false, List, [], ◌∷◌, ◌++◌, length, map, All, Option, arith, refl, append_assoc}
 use Rattle.std.specs.Prelude.{codes}
 use Rattle.std.specs.Fmt.{decimal}
 use Rattle.std.specs.List.{flat_map, list_any}
@@ -7,23 +7,22 @@ use Rattle.std.proofs.lemmas.List.{append-nil}
 use Rattle.std.proofs.lemmas.List.Elements.{All-head, All-tail}
 use Rattle.n41_types.specs.declared.commands.Answer.{Answer}
 use Rattle.n41_types.specs.declared.commands.Answer.TheVariants as says
-use Rattle.n41_types.specs.declared.commands.Command.{Command}
 use Rattle.n41_types.specs.declared.commands.Value.{Value}
 use Rattle.n41_types.specs.declared.commands.Value.TheVariants as value
 use Rattle.n41_journal.specs.declared.events.Cause.{Cause}
 use Rattle.n41_journal.specs.declared.events.Cause.TheVariants as cause
 use Rattle.n41_journal.specs.declared.events.Event.{Event}
 use Rattle.n41_journal.specs.declared.events.Event.TheVariants as event
-use Rattle.n41_model.specs.Text.{hex_or_dash, decimal_or_dash, mode_text, name_text, end_text, more_text, value_text}
+use Rattle.n41_model.specs.Text.{hex_or_dash, decimal_or_dash, mode_text, name_text, more_text, value_text}
 use Rattle.hex.specs.Hex.{IsBytes}
-use Rattle.n41_words.specs.Lines.{words, is_empty, is_space}
+use Rattle.n41_words.specs.Lines.{is_empty, is_space}
 use Rattle.n41_words.specs.Words.{has_control}
-use Rattle.n41_written.specs.Written.{◌·◌, command_text}
-use Rattle.n41_written.proofs.Words.{IsWord, IsPlain}
+use Rattle.n41_written.specs.Written.{◌·◌}
+use Rattle.n41_written.proofs.Words.{IsPlain}
 use Rattle.n41_journal_text.specs.Text.{cause_text, answer_text, message_text, event_text}
-use Rattle.n41_journal_text.specs.Words.{cause_words, end_word, more_words, value_words, answer_words, message_words, event_words, IsSaid, IsToldName, IsLegibleValue, IsLegibleAnswer, IsLegibleCause, IsPlaced, IsLegible}
+use Rattle.n41_journal_text.specs.Words.{cause_words, end_word, more_words, value_words, answer_words, message_words, event_words, IsToldName, IsLegibleValue, IsLegibleAnswer, IsLegibleCause, IsPlaced, IsLegible}
 use Rattle.n41_journal_text.proofs.Plain.{decimal_plain, optional_plain, mode_plain, hex_plain, data_plain, name_plain}
-use Rattle.n41_journal_text.proofs.Says.{Says, AreTold, says_one, says_more, says_as}
+use Rattle.n41_journal_text.proofs.Says.{Says, says_one, says_more, says_as}
 use Rattle.n41_journal_text.proofs.Filled.{request_some, reply_some, callback_some, callback_reply_some}
 use Rattle.n41_journal_text.proofs.Commands.{command_says}
 

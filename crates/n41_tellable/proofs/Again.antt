@@ -1,5 +1,5 @@
 -- What is read of a reply can be written.
-use Rattle.std.proofs.Common.{◌≡◌, ℕ, ◌<◌, ◌≤◌, ◌^◌, suc, true, List, [], ◌∷◌, length, map, Option, Some, None, Result, Ok, Err, refl, sym, ap, subst, ◌∙◌, arith}
+use Rattle.std.proofs.Common.{◌≡◌, ℕ, suc, List, [], ◌∷◌, length, map, Option, Some, None, Result, Ok, Err, refl, sym, ap, subst, ◌∙◌, arith}
 use Rattle.std.specs.Prelude.{Bool, IfSome}
 use Rattle.std.specs.List.{AllByRecursion}
 use Rattle.n41_xdr.specs.Lawful.{IsBytes}
@@ -8,19 +8,16 @@ use Rattle.n41_types.specs.declared.statuses.Status.{Status}
 use Rattle.n41_attr.specs.Attributes.{Told, values, behind, told, attrs_of, written, AttrsFit, WhenFits}
 use Rattle.n41_attr.specs.Parts.{fattr, outcome}
 use Rattle.n41_attr.proofs.Written.{written_fits}
-use Rattle.n41_rpc.specs.Heads.{Accept, Denial, Verdict, verdict_body, accept_body, success, no_program, mismatch, no_procedure, garbage, system_error, versions, auth, accepted, denied, IsBody}
-use Rattle.n41_rpc.specs.declared.heads.HeadBody.{HeadBody}
+use Rattle.n41_rpc.specs.Heads.{Accept, Verdict, verdict_body, accept_body, success, no_program, mismatch, no_procedure, garbage, system_error, versions, auth, accepted, denied, IsBody}
 use Rattle.n41_results.specs.declared.results.Res.{Res}
 use Rattle.n41_results.specs.declared.results.Res.TheVariants as res
-use Rattle.n41_results.specs.declared.results.Entry.{Entry}
-use Rattle.n41_results.specs.declared.results.Listing.{Listing}
 use Rattle.n41_results.specs.declared.replies.Reply.{Reply}
 use Rattle.n41_results.specs.declared.replies.ReplyBody.{ReplyBody}
 use Rattle.n41_results.specs.declared.replies.ReplyBody.TheVariants.{Denied, Rejected, Results}
 use Rattle.n41_ops.specs.Files.{ToldEntry, told_entry, ToldListing, told_listing, entry_of, written_entry, listing_of, written_listing}
 use Rattle.n41_ops.specs.Results.{ToldRes, Kept, GetAttr, ReadDir, told_res, res_of, written_res, answer_as}
-use Rattle.n41_replies.specs.Replies.{last_status, reply_at, head_body, BodyFits, Spells, WrittenFits, IsSpellable}
-use Rattle.n41_replies.proofs.Spelled.{told_length, is_found}
+use Rattle.n41_replies.specs.Replies.{reply_at, BodyFits, Spells, WrittenFits, IsSpellable}
+use Rattle.n41_replies.proofs.Spelled.{is_found}
 
 -- ---- attributes
 
