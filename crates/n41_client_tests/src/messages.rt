@@ -26,14 +26,6 @@ fn put_number(from: From) -> u32 {
     }
 }
 
-/// Entries of a directory: from the one of this number on so many, and whether they are the last.
-#[derive(Clone, Copy)]
-pub(crate) struct Page {
-    pub(crate) first: u32,
-    pub(crate) count: u32,
-    pub(crate) last: bool,
-}
-
 /// What a server answers. A request on a slot is named by its slot and its turn there.
 #[derive(Clone, Copy)]
 pub(crate) enum Told {
@@ -61,8 +53,8 @@ pub(crate) enum Told {
     Removed(u32, u32, From),
     /// A name in the root got another.
     Renamed(u32, u32),
-    /// Entries of the directory at the root or at a filehandle.
-    Listed(u32, u32, From, Page),
+    /// Entries of the directory at the root or at a filehandle: from this number on so many, and whether they are the last.
+    Listed(u32, u32, From, (u32, u32, bool)),
     /// The entries at a filehandle are refused with this status.
     Unlisted(u32, u32, u32),
     /// So many results, of which none follows.
@@ -156,13 +148,13 @@ fn put_entry(alloc: Global, w: &mut Writer, number: u32) -> Result<(), NoMemory>
 /// whether they are the last.
 fn put_listing(alloc: Global, w: &mut Writer, told: Told) -> Result<(), NoMemory> {
     match told {
-        Told::Listed(slot, turn, from, page) => {
+        Told::Listed(slot, turn, from, (first, count, last)) => {
             put_on(w, slot, turn, 0, 3, &[put_number(from), 0, 26, 0])?;
-            put_words(w, &[7, page.first])?;
-            for place in 0..page.count.min(2000) {
-                put_entry(alloc, w, page.first.saturating_add(place))?;
+            put_words(w, &[7, first])?;
+            for place in 0..count.min(2000) {
+                put_entry(alloc, w, first.saturating_add(place))?;
             }
-            put_words(w, &[0, u32::from(page.last)])
+            put_words(w, &[0, u32::from(last)])
         }
         Told::Unlisted(slot, turn, status) => {
             put_on(w, slot, turn, status, 3, &[22, 0, 26, status])

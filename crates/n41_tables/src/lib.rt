@@ -6,8 +6,6 @@ mod facts;
 mod seats;
 mod slots;
 mod tables;
-#[cfg(test)]
-mod tests;
 
 pub use copies::EventCopy;
 pub use tables::Tables;
