@@ -147,145 +147,207 @@ fn paused(caller: u32, number: u64) -> Event {
     answered(caller, number, Answer::Done(Value::Paused))
 }
 
-#[test]
-fn a_command_is_answered_once(rt: HostRuntime) -> Result<(), NoMemory> {
-    let alloc = rt.alloc();
-    let mut journal = Journal::new(alloc);
-    add(&mut journal, pause(0, 1))?;
-    add(&mut journal, paused(0, 1))?;
-    assert_eq!(rt; check(alloc, &journal)?, None);
-    add(&mut journal, paused(0, 1))?;
-    assert_eq!(rt; check(alloc, &journal)?, Some((3, Rule::Answers)));
-    Ok(())
-}
-
-/// What is found in the journal of these two events.
-fn found_in_two(
+/// What is found in a journal that was filled or not. The journal is done with.
+fn found(
     alloc: Global,
-    first: Event,
-    second: Event,
+    journal: Journal,
+    filled: Result<(), NoMemory>,
 ) -> Result<Option<(u64, Rule)>, NoMemory> {
-    let mut journal = Journal::new(alloc);
-    add(&mut journal, first)?;
-    add(&mut journal, second)?;
-    check(alloc, &journal)
+    let found = check(alloc, &journal);
+    drop(journal);
+    filled?;
+    found
 }
 
-#[test]
-fn each_rule_is_named(rt: HostRuntime) -> Result<(), NoMemory> {
-    let alloc = rt.alloc();
-    let cases = [
-        (look(1, 3, 1), look(2, 3, 2), Some((2, Rule::Slots))),
-        (look(1, 3, 1), look(1, 3, 1), None),
-        (
-            look(1, 3, 1),
-            put(1, 3, 1, Plan::LeaseTime),
-            Some((2, Rule::Retries)),
-        ),
-        (look(1, 3, 1), look(1, 3, 2), None),
-        (look(1, 3, 1), look(1, 3, 3), Some((2, Rule::Turns))),
-        (look(1, 3, 0), look(1, 3, 1), Some((1, Rule::Turns))),
-        (look(1, 3, 1), look(1, 4, 1), None),
-        (
-            pause(7, 1),
-            answered(7, 1, Answer::Unknown),
-            Some((2, Rule::Causes)),
-        ),
-        (
-            pause(7, 1),
-            answered(7, 2, Answer::Unreachable(16)),
-            Some((2, Rule::Causes)),
-        ),
-        (pause(7, 1), paused(7, 2), Some((2, Rule::Answers))),
-        (pause(7, 1), paused(6, 1), Some((2, Rule::Answers))),
-    ];
-    for (first, second, want) in Vec::from_array(alloc, cases)? {
-        assert_eq!(rt; found_in_two(alloc, first, second)?, want);
+/// A pause that is answered so many times.
+fn add_pause(journal: &mut Journal, times: u32) -> Result<(), NoMemory> {
+    add(journal, pause(0, 1))?;
+    for _ in 0..times {
+        add(journal, paused(0, 1))?;
     }
     Ok(())
 }
 
+fn found_in_pause(alloc: Global, times: u32) -> Result<Option<(u64, Rule)>, NoMemory> {
+    let mut journal = Journal::new(alloc);
+    let filled = add_pause(&mut journal, times);
+    found(alloc, journal, filled)
+}
+
+#[test]
+fn a_command_is_answered_once(rt: HostRuntime) -> Result<(), NoMemory> {
+    assert_eq!(rt; found_in_pause(rt.alloc(), 1)?, None);
+    assert_eq!(rt; found_in_pause(rt.alloc(), 2)?, Some((3, Rule::Answers)));
+    Ok(())
+}
+
+/// Two events of a case.
+#[derive(Clone, Copy)]
+enum Pair {
+    /// A look with this xid, slot and turn, and another one.
+    Looks((u32, u32, u32), (u32, u32, u32)),
+    /// A look, and with the same xid, slot and turn another request.
+    Changed(u32, u32, u32),
+    /// A pause of this caller, and its answer to another or the same one.
+    Paused(u32, u32, u64),
+    Unknown(u32),
+    Unreachable(u32),
+}
+
+fn add_pair(journal: &mut Journal, pair: &Pair) -> Result<(), NoMemory> {
+    match pair {
+        Pair::Looks(first, second) => {
+            add(journal, look(first.0, first.1, first.2))?;
+            add(journal, look(second.0, second.1, second.2))
+        }
+        Pair::Changed(xid, slot, turn) => {
+            add(journal, look(*xid, *slot, *turn))?;
+            add(journal, put(*xid, *slot, *turn, Plan::LeaseTime))
+        }
+        Pair::Paused(caller, other, number) => {
+            add(journal, pause(*caller, 1))?;
+            add(journal, paused(*other, *number))
+        }
+        Pair::Unknown(caller) => {
+            add(journal, pause(*caller, 1))?;
+            add(journal, answered(*caller, 1, Answer::Unknown))
+        }
+        Pair::Unreachable(caller) => {
+            add(journal, pause(*caller, 1))?;
+            add(journal, answered(*caller, 2, Answer::Unreachable(16)))
+        }
+    }
+}
+
+fn found_in_pair(alloc: Global, pair: &Pair) -> Result<Option<(u64, Rule)>, NoMemory> {
+    let mut journal = Journal::new(alloc);
+    let filled = add_pair(&mut journal, pair);
+    found(alloc, journal, filled)
+}
+
+#[test]
+fn each_rule_is_named(rt: HostRuntime) -> Result<(), NoMemory> {
+    let cases = [
+        (Pair::Looks((1, 3, 1), (2, 3, 2)), Some((2, Rule::Slots))),
+        (Pair::Looks((1, 3, 1), (1, 3, 1)), None),
+        (Pair::Changed(1, 3, 1), Some((2, Rule::Retries))),
+        (Pair::Looks((1, 3, 1), (1, 3, 2)), None),
+        (Pair::Looks((1, 3, 1), (1, 3, 3)), Some((2, Rule::Turns))),
+        (Pair::Looks((1, 3, 0), (1, 3, 1)), Some((1, Rule::Turns))),
+        (Pair::Looks((1, 3, 1), (1, 4, 1)), None),
+        (Pair::Unknown(7), Some((2, Rule::Causes))),
+        (Pair::Unreachable(7), Some((2, Rule::Causes))),
+        (Pair::Paused(7, 7, 2), Some((2, Rule::Answers))),
+        (Pair::Paused(7, 6, 1), Some((2, Rule::Answers))),
+    ];
+    for (pair, want) in &cases {
+        assert_eq!(rt; found_in_pair(rt.alloc(), pair)?, *want);
+    }
+    Ok(())
+}
+
+/// A request is refused for its size, and its turn is used by another; or by a third one too.
+fn add_refusal(alloc: Global, journal: &mut Journal, third: bool) -> Result<(), NoMemory> {
+    add(journal, look(1, 0, 1))?;
+    add(
+        journal,
+        took_one(alloc, 1, Res::Sequence(Err(Status::REQ_TOO_BIG)))?,
+    )?;
+    add(journal, look(2, 0, 1))?;
+    if third {
+        add(journal, took_one(alloc, 2, sequenced(1))?)?;
+        add(journal, look(3, 0, 1))?;
+    }
+    Ok(())
+}
+
+fn found_in_refusal(alloc: Global, third: bool) -> Result<Option<(u64, Rule)>, NoMemory> {
+    let mut journal = Journal::new(alloc);
+    let filled = add_refusal(alloc, &mut journal, third);
+    found(alloc, journal, filled)
+}
+
 #[test]
 fn a_turn_that_is_given_back_is_no_repeat(rt: HostRuntime) -> Result<(), NoMemory> {
-    let alloc = rt.alloc();
-    let mut journal = Journal::new(alloc);
-    add(&mut journal, look(1, 0, 1))?;
-    let refused = Res::Sequence(Err(Status::REQ_TOO_BIG));
-    add(&mut journal, took_one(alloc, 1, refused)?)?;
-    add(&mut journal, look(2, 0, 1))?;
-    assert_eq!(rt; check(alloc, &journal)?, None);
-    add(&mut journal, took_one(alloc, 2, sequenced(1))?)?;
-    add(&mut journal, look(3, 0, 1))?;
-    assert_eq!(rt; check(alloc, &journal)?, Some((5, Rule::Retries)));
+    assert_eq!(rt; found_in_refusal(rt.alloc(), false)?, None);
+    assert_eq!(rt;
+        found_in_refusal(rt.alloc(), true)?,
+        Some((5, Rule::Retries))
+    );
     Ok(())
 }
 
 fn exchanged(alloc: Global) -> Result<Res, NoMemory> {
+    let major = Bytes::copy_from_slice(alloc, b"server")?;
+    let scope = Bytes::copy_from_slice(alloc, b"scope")?;
     Ok(Res::ExchangeId(Ok(Identity {
         client: 5,
         sequence: 1,
         flags: 0,
         minor: 0,
-        major: Bytes::copy_from_slice(alloc, b"server")?,
-        scope: Bytes::copy_from_slice(alloc, b"scope")?,
+        major,
+        scope,
         implementation: None,
     })))
 }
 
-/// A connection, a client id and a session: five events.
-fn opened(alloc: Global) -> Result<Journal, NoMemory> {
-    let mut journal = Journal::new(alloc);
-    add(&mut journal, Event::Dialed { conn: 1 })?;
-    let exchange = Plan::ExchangeId {
-        verifier: [7; 8],
-        owner: Bytes::copy_from_slice(alloc, b"client")?,
-    };
-    add(&mut journal, bare(1, exchange))?;
-    add(&mut journal, took_one(alloc, 1, exchanged(alloc)?)?)?;
-    add(
-        &mut journal,
-        bare(2, Plan::CreateSession { client: 5, seq: 1 }),
-    )?;
-    add(
-        &mut journal,
-        took_one(alloc, 2, Res::CreateSession(Ok(MADE)))?,
-    )?;
-    Ok(journal)
+/// A connection and a client id: three events.
+fn add_client(alloc: Global, journal: &mut Journal) -> Result<(), NoMemory> {
+    add(journal, Event::Dialed { conn: 1 })?;
+    let owner = Bytes::copy_from_slice(alloc, b"client")?;
+    let verifier = [7; 8];
+    add(journal, bare(1, Plan::ExchangeId { verifier, owner }))?;
+    add(journal, took_one(alloc, 1, exchanged(alloc)?)?)
 }
 
-/// Then RECLAIM_COMPLETE, and the lease time: nine in all.
-fn running(alloc: Global) -> Result<Journal, NoMemory> {
-    let mut journal = opened(alloc)?;
-    add(&mut journal, put(3, 0, 1, Plan::Complete))?;
-    let mut results = Vec::new(alloc);
-    results.push(sequenced(1))?;
-    results.push(Res::ReclaimComplete(Status::OK))?;
-    add(&mut journal, took(alloc, 3, results)?)?;
-    add(&mut journal, put(4, 0, 2, Plan::LeaseTime))?;
-    let mut results = Vec::new(alloc);
-    results.push(sequenced(2))?;
-    results.push(Res::PutRootFh(Status::OK))?;
-    results.push(Res::GetAttr(Ok(LEASE)))?;
-    add(&mut journal, took(alloc, 4, results)?)?;
-    Ok(journal)
+/// A session: two more.
+fn add_session(alloc: Global, journal: &mut Journal) -> Result<(), NoMemory> {
+    add(journal, bare(2, Plan::CreateSession { client: 5, seq: 1 }))?;
+    add(journal, took_one(alloc, 2, Res::CreateSession(Ok(MADE)))?)
+}
+
+fn pushed(list: Vec<Res>, res: Res) -> Result<Vec<Res>, NoMemory> {
+    let mut list = list;
+    list.push(res)?;
+    Ok(list)
+}
+
+/// RECLAIM_COMPLETE: two more.
+fn add_complete(alloc: Global, journal: &mut Journal) -> Result<(), NoMemory> {
+    add(journal, put(3, 0, 1, Plan::Complete))?;
+    let list = pushed(Vec::new(alloc), sequenced(1))?;
+    let list = pushed(list, Res::ReclaimComplete(Status::OK))?;
+    add(journal, took(alloc, 3, list)?)
+}
+
+/// The lease time: two more.
+fn add_lease(alloc: Global, journal: &mut Journal) -> Result<(), NoMemory> {
+    add(journal, put(4, 0, 2, Plan::LeaseTime))?;
+    let list = pushed(Vec::new(alloc), sequenced(2))?;
+    let list = pushed(list, Res::PutRootFh(Status::OK))?;
+    let list = pushed(list, Res::GetAttr(Ok(LEASE)))?;
+    add(journal, took(alloc, 4, list)?)
+}
+
+fn name(alloc: Global) -> Result<Name, NoMemory> {
+    match Name::of(alloc, b"a") {
+        Ok(name) => Ok(name),
+        Err(_) => Err(AllocError),
+    }
 }
 
 /// A path of one name.
 fn path(alloc: Global) -> Result<Path, NoMemory> {
     let mut names = Vec::new(alloc);
-    match Name::of(alloc, b"a") {
-        Ok(name) => names.push(name)?,
-        Err(_) => return Err(AllocError),
-    }
+    names.push(name(alloc)?)?;
     Path::from_vec(alloc, names)
 }
 
-/// A directory is to be made, its request goes out, and the connection breaks: twelve in all.
-fn broken(alloc: Global) -> Result<Journal, NoMemory> {
-    let mut journal = running(alloc)?;
+/// A directory is to be made, its request goes out, and the connection breaks: three more, twelve in all.
+fn add_change(alloc: Global, journal: &mut Journal) -> Result<(), NoMemory> {
     let command = Command::MakeDir { path: path(alloc)? };
     add(
-        &mut journal,
+        journal,
         Event::Began {
             caller: 0,
             number: 1,
@@ -294,34 +356,45 @@ fn broken(alloc: Global) -> Result<Journal, NoMemory> {
         },
     )?;
     let dir = Place::Root;
-    match Name::of(alloc, b"a") {
-        Ok(name) => add(&mut journal, put(5, 0, 3, Plan::MakeDir { dir, name }))?,
-        Err(_) => return Err(AllocError),
-    }
+    let name = name(alloc)?;
+    add(journal, put(5, 0, 3, Plan::MakeDir { dir, name }))?;
     add(
-        &mut journal,
+        journal,
         Event::Broke {
             conn: 1,
             cause: Cause::Ended,
         },
-    )?;
-    Ok(journal)
+    )
 }
 
 /// Then so many dials fail, and the directory's command is answered so.
-fn found_after(alloc: Global, dials: u32, answer: Answer) -> Result<Option<(u64, Rule)>, NoMemory> {
-    let mut journal = broken(alloc)?;
+fn add_end(
+    alloc: Global,
+    journal: &mut Journal,
+    dials: u32,
+    answer: Answer,
+) -> Result<(), NoMemory> {
+    let end = answered(0, 1, answer);
+    add_client(alloc, journal)?;
+    add_session(alloc, journal)?;
+    add_complete(alloc, journal)?;
+    add_lease(alloc, journal)?;
+    add_change(alloc, journal)?;
     for _ in 0..dials {
-        add(&mut journal, Event::DialFailed)?;
+        add(journal, Event::DialFailed)?;
     }
-    add(&mut journal, answered(0, 1, answer))?;
-    check(alloc, &journal)
+    add(journal, end)
+}
+
+fn found_after(alloc: Global, dials: u32, answer: Answer) -> Result<Option<(u64, Rule)>, NoMemory> {
+    let mut journal = Journal::new(alloc);
+    let filled = add_end(alloc, &mut journal, dials, answer);
+    found(alloc, journal, filled)
 }
 
 #[test]
 fn answers_at_the_end_have_their_causes(rt: HostRuntime) -> Result<(), NoMemory> {
     let alloc = rt.alloc();
-    assert_eq!(rt; check(alloc, &broken(alloc)?)?, None);
     assert_eq!(rt; found_after(alloc, 16, Answer::Unknown)?, None);
     assert_eq!(rt;
         found_after(alloc, 15, Answer::Unknown)?,
@@ -344,26 +417,38 @@ fn add_command(
     requires caller { caller < 64 }
     requires number { number < 1000000 }
 {
+    let xid = caller * 1_000_000 + number;
     add(journal, pause(caller, u64::from(number)))?;
-    add(journal, look(caller * 1000000 + number, caller, number))?;
-    add(
-        journal,
-        took_one(alloc, caller * 1000000 + number, sequenced(number))?,
-    )?;
+    add(journal, look(xid, caller, number))?;
+    add(journal, took_one(alloc, xid, sequenced(number))?)?;
     add(journal, paused(caller, u64::from(number)))
+}
+
+/// Commands of 64 callers, 156 of each, and the last of them is answered once or twice.
+fn add_commands(alloc: Global, journal: &mut Journal, twice: bool) -> Result<(), NoMemory> {
+    for number in 1..157 {
+        for caller in 0..64 {
+            add_command(alloc, journal, caller, number)?;
+        }
+    }
+    if twice {
+        add(journal, paused(63, 156))?;
+    }
+    Ok(())
+}
+
+fn found_in_commands(alloc: Global, twice: bool) -> Result<Option<(u64, Rule)>, NoMemory> {
+    let mut journal = Journal::new(alloc);
+    let filled = add_commands(alloc, &mut journal, twice);
+    found(alloc, journal, filled)
 }
 
 #[test]
 fn ten_thousand_commands_are_checked(rt: HostRuntime) -> Result<(), NoMemory> {
-    let alloc = rt.alloc();
-    let mut journal = Journal::new(alloc);
-    for number in 1..157 {
-        for caller in 0..64 {
-            add_command(alloc, &mut journal, caller, number)?;
-        }
-    }
-    assert_eq!(rt; check(alloc, &journal)?, None);
-    add(&mut journal, paused(63, 156))?;
-    assert_eq!(rt; check(alloc, &journal)?, Some((39937, Rule::Answers)));
+    assert_eq!(rt; found_in_commands(rt.alloc(), false)?, None);
+    assert_eq!(rt;
+        found_in_commands(rt.alloc(), true)?,
+        Some((39937, Rule::Answers))
+    );
     Ok(())
 }
