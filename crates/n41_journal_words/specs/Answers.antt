@@ -9,7 +9,7 @@ use Rattle.n41_words.specs.Numbers.{number, octal, hex_bytes}
 use Rattle.n41_words.specs.declared.fault.LineKind.{LineKind}
 use Rattle.n41_words.specs.declared.fault.LineKind.TheVariants as kind
 use Rattle.n41_journal_words.specs.Names.{name_of}
-use Rattle.n41_journal_words.specs.Reading.{fixed, form_at, field_at, end_at}
+use Rattle.n41_journal_words.specs.Reading.{fixed, form_at, field_at, alone, last_at}
 use Rattle.n41_journal_words.specs.declared.first.First.{First}
 use Rattle.n41_journal_words.specs.declared.first.First.TheVariants as first
 
@@ -77,23 +77,12 @@ first_of word = first_among firsts word
 
 -- ---- what stands behind it
 
--- nothing
-abbrev pub alone : Answer → List (List ℕ) → Result Answer LineKind
-alone a words = end_at words >>= λ done. Ok a
-
--- one word
-abbrev pub last_at : {X : Type 0} → (List ℕ → Result X LineKind) → List (List ℕ) → Result X LineKind
-last_at form words = form_at form words >>= λ x. end_at x.1 >>= λ done. Ok x.0
-
+-- a number
 abbrev pub numbered : (List ℕ → Result ℕ LineKind) → (ℕ → Answer) → List (List ℕ) → Result Answer LineKind
 numbered form answer words = last_at form words >>= λ n. Ok (answer n)
 
 abbrev pub data_of : List (List ℕ) → Result Answer LineKind
-data_of words = do
-  bytes ← form_at data_bytes words
-  last ← form_at is_last bytes.1
-  done ← end_at last.1
-  Ok (says.Done (value.Got bytes.0 last.0))
+data_of words = form_at data_bytes words >>= λ bytes. last_at is_last bytes.1 >>= λ last. Ok (says.Done (value.Got bytes.0 last))
 
 -- each attribute behind its name
 abbrev pub stat_of : List (List ℕ) → Result Answer LineKind
@@ -102,8 +91,7 @@ stat_of words = do
   size ← field_at (codes "size") number64 type.1
   fileid ← field_at (codes "fileid") (or_dash number64) size.1
   mode ← field_at (codes "mode") (or_dash mode) fileid.1
-  done ← end_at mode.1
-  Ok (says.Done (value.Stat type.0 size.0 fileid.0 mode.0))
+  alone (says.Done (value.Stat type.0 size.0 fileid.0 mode.0)) mode.1
 
 -- so many names
 abbrev pub names_at : ℕ → List (List ℕ) → Result (List (List ℕ) × List (List ℕ)) LineKind
@@ -119,14 +107,10 @@ abbrev pub names_of : List (List ℕ) → Result Answer LineKind
 names_of words = do
   count ← form_at number64 words
   names ← names_at count.0 count.1
-  done ← end_at (more_at names.1).1
-  Ok (says.Done (value.Names names.0 (more_at names.1).0))
+  alone (says.Done (value.Names names.0 (more_at names.1).0)) (more_at names.1).1
 
 abbrev pub not_of : List (List ℕ) → Result Answer LineKind
-not_of words = do
-  word ← form_at (fixed (codes "open")) words
-  done ← end_at word.1
-  Ok says.NotOpen
+not_of words = last_at (fixed (codes "open")) words >>= λ done. Ok says.NotOpen
 
 abbrev pub answer_behind : First → List (List ℕ) → Result Answer LineKind
 answer_behind first.Opened words = alone (says.Done value.Opened) words

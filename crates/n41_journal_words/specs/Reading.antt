@@ -29,6 +29,14 @@ abbrev pub end_at : List (List ℕ) → Result (Unit {0}) LineKind
 end_at [] = Ok tt
 end_at (word ∷ words) = Err (if has_control word then kind.Byte else kind.Words)
 
+-- this, and no word is left
+abbrev pub alone : {X : Type 0} → X → List (List ℕ) → Result X LineKind
+alone x words = end_at words >>= λ done. Ok x
+
+-- the last word, by its form
+abbrev pub last_at : {X : Type 0} → (List ℕ → Result X LineKind) → List (List ℕ) → Result X LineKind
+last_at form words = form_at form words >>= λ x. alone x.0 x.1
+
 -- A call on a reader of words answers what reading gives, unless memory runs out: the value, seen by view, and the words that are left; or the fault.
 abbrev pub Reads : {X Y : Type 0} → (X → Y) → Result X LineFault → List (List ℕ) → Result (Y × List (List ℕ)) LineKind → Type 0
 Reads view (Ok x) new read = read ≡ Ok (view x, new)

@@ -3,7 +3,7 @@ ghost use Rattle.std.specs.Prelude.{◌≡◌, codes};
 ghost use Rattle.n41_words.specs.Faults.{Gives};
 ghost use Rattle.n41_journal_words.specs.Names.{name_of};
 ghost use Rattle.n41_journal_words.specs.Reading.{form_at, field_at, Reads};
-ghost use Rattle.n41_journal_words.specs.Answers.{number32, number64, or_dash, mode, data_bytes, is_last, last_at, alone, data_of, stat_of, names_at, more_at, names_of, not_of, answer_behind, answer_of};
+ghost use Rattle.n41_journal_words.specs.Answers.{number32, number64, or_dash, mode, data_bytes, is_last, data_of, stat_of, names_at, more_at, names_of, not_of, answer_behind, answer_of};
 
 use crate::first::{First, read_first};
 use crate::forms::{data_bytes, is_last, mode_or_dash, number_or_dash};
@@ -13,32 +13,6 @@ use n41_types::{Answer, Bytes, Loss, Status, Texts, Value};
 use n41_words::LineFault;
 use std::alloc::Global;
 
-/// An answer behind whose first word nothing stands.
-fn alone(words: &Words<'_>, answer: Answer) -> Result<Answer, LineFault>
-    ensures { Gives result (alone answer words.now) }
-{
-    words.end()?;
-    Ok(answer)
-}
-
-/// The number of at most 32 bits that ends a line.
-fn last_number32(words: &mut Words<'_>) -> Result<u32, LineFault>
-    ensures { Gives result (last_at number32 words.old) }
-{
-    let number = words.number32()?;
-    words.end()?;
-    Ok(number)
-}
-
-/// The number of at most 64 bits that ends a line.
-fn last_number64(words: &mut Words<'_>) -> Result<u64, LineFault>
-    ensures { Gives result (last_at number64 words.old) }
-{
-    let number = words.number64()?;
-    words.end()?;
-    Ok(number)
-}
-
 /// What a read gave.
 fn data(alloc: Global, words: &mut Words<'_>) -> Result<Answer, LineFault>
     ensures { Gives result (data_of words.old) }
@@ -47,8 +21,7 @@ fn data(alloc: Global, words: &mut Words<'_>) -> Result<Answer, LineFault>
     let bytes = data_bytes(alloc, word)?;
     let word = words.word()?;
     let last = is_last(word)?;
-    words.end()?;
-    Ok(Answer::Done(Value::Got { bytes, last }))
+    words.end_with(Answer::Done(Value::Got { bytes, last }))
 }
 
 /// A number of at most 64 bits, or a dash, behind its name.
@@ -79,8 +52,7 @@ fn stat(words: &mut Words<'_>) -> Result<Answer, LineFault>
     let size = words.number64()?;
     let fileid = field(words, b"fileid")?;
     let mode = mode(words)?;
-    words.end()?;
-    Ok(Answer::Done(Value::Stat {
+    words.end_with(Answer::Done(Value::Stat {
         kind,
         size,
         fileid,
@@ -115,8 +87,7 @@ fn names(alloc: Global, words: &mut Words<'_>) -> Result<Answer, LineFault>
     let count = words.number64()?;
     let names = names_of(alloc, words, count)?;
     let more = words.more();
-    words.end()?;
-    Ok(Answer::Done(Value::Names { names, more }))
+    words.end_with(Answer::Done(Value::Names { names, more }))
 }
 
 /// That no handle is open.
@@ -124,8 +95,7 @@ fn not_open(words: &mut Words<'_>) -> Result<Answer, LineFault>
     ensures { Gives result (not_of words.old) }
 {
     words.fixed(b"open")?;
-    words.end()?;
-    Ok(Answer::NotOpen)
+    words.end_with(Answer::NotOpen)
 }
 
 /// The answer that the words behind its first word say.
@@ -133,26 +103,26 @@ fn read_behind(alloc: Global, first: First, words: &mut Words<'_>) -> Result<Ans
     ensures { Gives result (answer_behind first words.old) }
 {
     match first {
-        First::Opened => alone(words, Answer::Done(Value::Opened)),
+        First::Opened => words.end_with(Answer::Done(Value::Opened)),
         First::Data => data(alloc, words),
-        First::Wrote => Ok(Answer::Done(Value::Wrote(last_number32(words)?))),
-        First::Locked => alone(words, Answer::Done(Value::Locked)),
-        First::Unlocked => alone(words, Answer::Done(Value::Unlocked)),
-        First::Free => alone(words, Answer::Done(Value::Free)),
-        First::Truncated => alone(words, Answer::Done(Value::Truncated)),
-        First::Closed => alone(words, Answer::Done(Value::Closed)),
+        First::Wrote => Ok(Answer::Done(Value::Wrote(words.last_number32()?))),
+        First::Locked => words.end_with(Answer::Done(Value::Locked)),
+        First::Unlocked => words.end_with(Answer::Done(Value::Unlocked)),
+        First::Free => words.end_with(Answer::Done(Value::Free)),
+        First::Truncated => words.end_with(Answer::Done(Value::Truncated)),
+        First::Closed => words.end_with(Answer::Done(Value::Closed)),
         First::Stat => stat(words),
         First::Names => names(alloc, words),
-        First::Made => alone(words, Answer::Done(Value::Made)),
-        First::Removed => alone(words, Answer::Done(Value::Removed)),
-        First::Renamed => alone(words, Answer::Done(Value::Renamed)),
-        First::Paused => alone(words, Answer::Done(Value::Paused)),
-        First::Refused => Ok(Answer::Refused(Status(last_number32(words)?))),
-        First::Unknown => alone(words, Answer::Unknown),
-        First::Lost => Ok(Answer::StateLost(Loss(Status(last_number32(words)?)))),
-        First::Unreachable => Ok(Answer::Unreachable(last_number64(words)?)),
+        First::Made => words.end_with(Answer::Done(Value::Made)),
+        First::Removed => words.end_with(Answer::Done(Value::Removed)),
+        First::Renamed => words.end_with(Answer::Done(Value::Renamed)),
+        First::Paused => words.end_with(Answer::Done(Value::Paused)),
+        First::Refused => Ok(Answer::Refused(Status(words.last_number32()?))),
+        First::Unknown => words.end_with(Answer::Unknown),
+        First::Lost => Ok(Answer::StateLost(Loss(Status(words.last_number32()?)))),
+        First::Unreachable => Ok(Answer::Unreachable(words.last_number64()?)),
         First::Not => not_open(words),
-        First::Breach => Ok(Answer::Breach(last_number64(words)?)),
+        First::Breach => Ok(Answer::Breach(words.last_number64()?)),
     }
 }
 

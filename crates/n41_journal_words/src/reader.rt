@@ -3,7 +3,7 @@ ghost use Rattle.std.specs.Prelude.{◌≡◌, ◌≤◌, ◌+◌, ◌^◌, ℕ}
 ghost use Rattle.n41_words.specs.Lines.{words};
 ghost use Rattle.n41_words.specs.Numbers.{number};
 ghost use Rattle.n41_words.specs.Faults.{Gives};
-ghost use Rattle.n41_journal_words.specs.Reading.{word_at, form_at, fixed, end_at, Reads};
+ghost use Rattle.n41_journal_words.specs.Reading.{word_at, form_at, fixed, end_at, alone, last_at, Reads};
 ghost use Rattle.n41_journal_words.specs.Answers.{number32, number64, more_at};
 
 use n41_words::{LineFault, LineKind, has_control, is_word, next_word, number};
@@ -107,5 +107,29 @@ impl<'a> Words<'a> {
             })),
             None => Ok(()),
         }
+    }
+
+    /// This value, where the words end here.
+    pub fn end_with<T: Drop>(&self, value: T) -> Result<T, LineFault>
+        ensures { Gives result (alone value self.now) }
+    {
+        self.end()?;
+        Ok(value)
+    }
+
+    /// The number of at most 64 bits that is the last word.
+    pub fn last_number64(&mut self) -> Result<u64, LineFault>
+        ensures { Gives result (last_at number64 self.old) }
+    {
+        let number = self.number64()?;
+        self.end_with(number)
+    }
+
+    /// The number of at most 32 bits that is the last word.
+    pub fn last_number32(&mut self) -> Result<u32, LineFault>
+        ensures { Gives result (last_at number32 self.old) }
+    {
+        let number = self.number32()?;
+        self.end_with(number)
     }
 }
