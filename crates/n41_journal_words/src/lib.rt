@@ -6,6 +6,8 @@ mod first;
 mod forms;
 mod names;
 mod reader;
+#[cfg(test)]
+mod tests;
 
 pub use answers::read_answer;
 pub use reader::Words;
