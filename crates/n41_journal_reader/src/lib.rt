@@ -1,0 +1,12 @@
+//! The reader of journals: lines, each of an event.
+#![tactic(auto)]
+
+mod causes;
+mod events;
+mod first;
+mod lawful;
+mod messages;
+mod reading;
+
+pub use n41_words::{LineKind, ScriptFault};
+pub use reading::read_journal;
