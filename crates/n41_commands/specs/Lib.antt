@@ -2,3 +2,4 @@ pub mod Callers
 pub mod Paths
 pub mod Commands
 pub mod Cursors
+pub mod Heads

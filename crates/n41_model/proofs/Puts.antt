@@ -92,7 +92,8 @@ item_is u js (item.Fresh c) r e =
 item_is u js item.Destroy r e =
     let h = only_if_some (may_destroy u js) (with_plan (destroy_plan js) (bare_due u js)) r e in
     let p = with_plan_some (destroy_plan js) (bare_due u js) r h.1 in
-    bare_new u js p.0 r (empty_is (bares js) (and_true (finishing u.callers js) (is_empty (bares js)) h.0).1) p.1
+    let a = (and_true (finishing u.callers js && is_empty (bares js)) (not (any_waits js)) h.0).0 in
+    bare_new u js p.0 r (empty_is (bares js) (and_true (finishing u.callers js) (is_empty (bares js)) a).1) p.1
 
 pub put_is : (u : Setup) (js : List Event) (i : Item) (r : Request) → due u js i ≡ Some r → PutIs js r
 put_is u js i r e = item_is u js i r (only_if_some (is_open js) (item_due u js i) r e).1

@@ -1,14 +1,16 @@
 -- What a text that is a script says: it has few callers, a short owner, and commands that are built.
 use Rattle.std.proofs.Common.{◌≡◌, ℕ, ◌+◌, ◌≤◌, ◌&&◌, Bool, true, false, not, List, [], ◌∷◌, ◌++◌, length, Some, Result, Ok, Err, if◌then◌else◌, refl, sym, ap, subst, arith, length-append}
 use Rattle.std.proofs.lemmas.Bool.Decides.{nat_tests}
-use Rattle.std.specs.Prelude.{IfOk, IsSome, nat_le, is_some}
+use Rattle.std.specs.Prelude.{IfOk, IsSome, nat_le, is_some, codes}
 use Rattle.n41_types.specs.declared.commands.Command.{Command}
 use Rattle.n41_types.specs.declared.commands.Command.TheVariants as command
 use Rattle.n41_model.specs.Calls.{is_built, is_none_left}
 use Rattle.n41_words.specs.Lines.{lines, words, is_skipped, is_empty}
-use Rattle.n41_words.specs.Words.{has_control}
+use Rattle.n41_words.specs.Words.{has_control, same}
 use Rattle.n41_commands.specs.Callers.{is_caller, is_kept}
 use Rattle.n41_commands.specs.Commands.{next, ended, command_with, onward, verb_of}
+use Rattle.n41_commands.specs.Heads.{ids, owner, owner_word}
+use Rattle.n41_commands.specs.declared.heads.Ids.{Ids}
 use Rattle.n41_commands.specs.Paths.{path, target, named}
 use Rattle.n41_commands.specs.declared.verb.Verb.{Verb}
 use Rattle.n41_commands.specs.declared.verb.Verb.TheVariants as verb
@@ -16,7 +18,7 @@ use Rattle.n41_script.specs.Lines.{is_long, readable}
 use Rattle.n41_script.specs.Callers.{is_too_many, place, caller_limit, caller}
 use Rattle.n41_script.specs.Commands.{command_of, built_verb, room_for}
 use Rattle.n41_script.specs.Commands as script
-use Rattle.n41_script.specs.Scripts.{Said, nothing, is_full, with_command, after_words, then_line, after_lines, IsScript}
+use Rattle.n41_script.specs.Scripts.{Said, nothing, is_full, may_stand, with_ids, with_owner, after_head, with_command, after_words, then_line, after_lines, owner_of, IsScript}
 use Rattle.n41_words.specs.declared.fault.LineKind.{LineKind}
 use Rattle.n41_words.specs.declared.fault.LineKind.TheVariants as kind
 use Rattle.n41_script.specs.declared.script.Script.{Script}
@@ -89,8 +91,9 @@ command_built full long (w ∷ ws) =
     either_built (has_control w) _ _ tt
     (onward_built (built_verb w) (λ v. room_for full long ws v) (λ v e. either_built full _ _ tt (with_built v long ws (verb_of_built (verb_of w) v e))))
 
--- few callers, and commands that are built
+-- a short owner, few callers, and commands that are built
 record Fine (s : Said) : Type 0 where
+  short : length (owner_of s.owner) ≤ 255
   few : length s.callers ≤ caller_limit
   built : AreBuilt s.lines
 
@@ -105,21 +108,54 @@ few_with false names word e l =
     grind (arith, nat_tests, e, l, h)
 
 command_fine : (s : Said) (word : List ℕ) (r : Result Command LineKind) → is_too_many s.callers word ≡ false → Fine s → IfOk r (λ k. is_built k ≡ true) → IfOk (with_command s word r) Fine
-command_fine s word (Ok k) e f h = record { few = few_with (is_some (place s.callers word)) s.callers word e f.few; built = built_more s.lines (record { caller = caller s.callers word; command = k }) f.built h }
+command_fine s word (Ok k) e f h = record { short = f.short; few = few_with (is_some (place s.callers word)) s.callers word e f.few; built = built_more s.lines (record { caller = caller s.callers word; command = k }) f.built h }
 command_fine s word (Err x) e f h = tt
 
 if_fine : (b : Bool) (x y : Result Said LineKind) → IfOk x Fine → (b ≡ false → IfOk y Fine) → IfOk (if b then x else y) Fine
 if_fine true x y g h = g
 if_fine false x y g h = h refl
 
+or_fault : (b : Bool) (x : Result Said LineKind) (k : LineKind) → IfOk x Fine → IfOk (if b then x else Err k) Fine
+or_fault true x k g = g
+or_fault false x k g = tt
+
+-- ---- the head
+
+short_end : (long : Bool) (ws : List (List ℕ)) (o : List ℕ) → length o ≤ 255 → IfOk (ended long ws o) (λ (x : List ℕ). length x ≤ 255)
+short_end true [] o l = tt
+short_end false [] o l = l
+short_end long (w ∷ ws) o l = tt
+
+short_word : (b long : Bool) (ws : List (List ℕ)) (w : List ℕ) → nat_le (length w) 255 ≡ b → IfOk (onward (if b then Ok w else Err kind.Limit) (λ o. ended long ws o)) (λ (x : List ℕ). length x ≤ 255)
+short_word true long ws w e = short_end long ws w (grind (arith, nat_tests, e))
+short_word false long ws w e = tt
+
+owner_short : (long : Bool) (ws : List (List ℕ)) → IfOk (owner long ws) (λ (x : List ℕ). length x ≤ 255)
+owner_short long [] = tt
+owner_short long (w ∷ ws) = behind (has_control w) where
+  behind : (b : Bool) → IfOk (if b then Err kind.Byte else onward (owner_word w) (λ o. ended long ws o)) (λ (x : List ℕ). length x ≤ 255)
+  behind true = tt
+  behind false = short_word (nat_le (length w) 255) long ws w refl
+
+ids_fine : (s : Said) (r : Result Ids LineKind) → Fine s → IfOk (with_ids s r) Fine
+ids_fine s (Ok i) f = record { short = f.short; few = f.few; built = f.built }
+ids_fine s (Err k) f = tt
+
+owner_fine : (s : Said) (r : Result (List ℕ) LineKind) → Fine s → IfOk r (λ (x : List ℕ). length x ≤ 255) → IfOk (with_owner s r) Fine
+owner_fine s (Ok o) f l = record { short = l; few = f.few; built = f.built }
+owner_fine s (Err k) f l = tt
+
+head_fine : (s : Said) (long : Bool) (w : List ℕ) (ws : List (List ℕ)) → Fine s → IfOk (after_head s long w ws) Fine
+head_fine s long w ws f =
+    if_fine (same w (codes "user")) _ _ (or_fault (may_stand s s.ids) (with_ids s (ids long ws)) kind.Plan (ids_fine s (ids long ws) f))
+    (λ _. or_fault (same w (codes "owner")) _ kind.Plan (or_fault (may_stand s s.owner) (with_owner s (owner long ws)) kind.Plan (owner_fine s (owner long ws) f (owner_short long ws))))
+
+-- ---- lines
+
 words_fine : (s : Said) (long : Bool) (ws : List (List ℕ)) → Fine s → IfOk (after_words s long ws) Fine
 words_fine s long [] f = tt
 words_fine s long (w ∷ ws) f =
-    if_fine (has_control w) _ _ tt (λ _. if_fine (is_kept w) _ _ tt (λ _. or_fault (is_caller w) _ _ (if_fine (is_too_many s.callers w) _ _ tt (λ e. command_fine s w (command_of (is_full s) long ws) e f (command_built (is_full s) long ws)))))
-  where
-    or_fault : (b : Bool) (x : Result Said LineKind) (k : LineKind) → IfOk x Fine → IfOk (if b then x else Err k) Fine
-    or_fault true x k g = g
-    or_fault false x k g = tt
+    if_fine (has_control w) _ _ tt (λ _. if_fine (is_kept w) _ _ (head_fine s long w ws f) (λ _. or_fault (is_caller w) _ _ (if_fine (is_too_many s.callers w) _ _ tt (λ e. command_fine s w (command_of (is_full s) long ws) e f (command_built (is_full s) long ws)))))
 
 line_fine : (r : Result Said LineKind) (line : List ℕ) → IfOk r Fine → IfOk (then_line r line) Fine
 line_fine (Ok s) line f = if_fine (is_skipped line) (Ok s) (after_words s (is_long line) (words (readable line))) f (λ _. words_fine s (is_long line) (words (readable line)) f)
@@ -130,7 +166,7 @@ lines_fine r [] f = f
 lines_fine r (l ∷ ls) f = lines_fine (then_line r l) ls (line_fine r l f)
 
 nothing_fine : Fine nothing
-nothing_fine = record { few = omega arith; built = tt }
+nothing_fine = record { short = omega arith; few = omega arith; built = tt }
 
 fine : (text : List ℕ) (s : Script) (h : IsScript text s) → Fine h.said
 fine text s h = subst (λ (r : Result Said LineKind). IfOk r Fine) h.by_lines (lines_fine (Ok nothing) (lines text) nothing_fine)
@@ -139,7 +175,7 @@ pub few_callers : (text : List ℕ) (s : Script) → IsScript text s → length 
 few_callers text s h = let f = (fine text s h).few in let e = ap length h.of_said.callers in omega (arith, f, e)
 
 pub short_owner : (text : List ℕ) (s : Script) → IsScript text s → length s.owner ≤ 1024
-short_owner text s h = let e = ap length h.of_said.owner in omega (arith, e)
+short_owner text s h = let f = (fine text s h).short in let e = ap length h.of_said.owner in omega (arith, f, e)
 
 pub are_built : (text : List ℕ) (s : Script) → IsScript text s → AreBuilt s.lines
 are_built text s h = subst AreBuilt (sym h.of_said.lines) (fine text s h).built

@@ -1,12 +1,10 @@
 ghost use Rattle.std.specs.Prelude.{◌≡◌, option_copied, IfOk};
-ghost use Rattle.n41_model.specs.Calls.{walk_most, at_root, parents, last_of, route, ahead, turned, way_of, walked, walked_by, step_of, way_after, reached, reached_in};
-ghost use Rattle.n41_model.specs.Sessions.{plan_in};
-ghost use Rattle.n41_results.specs.declared.replies.Reply.{Reply};
+ghost use Rattle.n41_model.specs.Calls.{walk_most, at_root, listed_of, parents, last_of, route, ahead, turned, way_of, walked, walked_by, reached, reached_in};
 ghost use Rattle.n41_said.specs.Handles.{fh_in};
 
-use n41_model::{Verdict, Way};
+use n41_model::{Listed, Way};
 use n41_results::{ReplyBody, Res, SessionMade};
-use n41_types::{Command, Fh, Name, NoMemory, Place, Plan, Request, Status};
+use n41_types::{Command, Fh, Name, NoMemory, Place};
 use std::mem;
 
 /// How many names go into one walk: 8, or what the session's operations leave beside SEQUENCE, PUTFH and GETFH.
@@ -20,13 +18,14 @@ pub fn walk_most(session: Option<SessionMade>) -> u64
 }
 
 /// A command at its beginning stands at the root.
-fn at_root(old: Option<Place>) -> Way
-    ensures { result ≡ at_root old }
+fn at_root(old: Option<Place>, listed: Option<Listed>) -> Way
+    ensures { result ≡ at_root old listed }
 {
     Way {
         at: Place::Root,
         walked: 0,
         old,
+        listed,
     }
 }
 
@@ -49,7 +48,7 @@ fn route<'a>(command: &'a Command, old: &Option<Place>) -> &'a [Name]
     ensures { result.now ≡ route command.now old.now }
 {
     match command {
-        Command::Stat { path } => path.as_slice(),
+        Command::Stat { path } | Command::List { path } => path.as_slice(),
         Command::MakeDir { path } => parents(path.as_slice()),
         Command::Remove { path } => parents(path.as_slice()),
         Command::Rename { from, to } => match old {
@@ -82,11 +81,12 @@ fn turned(command: &Command, way: &mut Way)
     }
 }
 
-/// How far a command has come that begins.
-pub fn way_of(command: &Command) -> Way
+/// How far a command has come that begins, with the listing that it begins.
+pub fn way_of(command: &Command, listed: Option<Listed>) -> Way
+    requires { listed ≡ listed_of command.now }
     ensures { result ≡ way_of command.now }
 {
-    let mut way = at_root(None);
+    let mut way = at_root(None, listed);
     turned(command, &mut way);
     way
 }
@@ -102,41 +102,11 @@ fn walked(command: &Command, names: u64, fh: Fh, way: &mut Way)
 }
 
 /// A walk over these names was answered OK, maybe with the file that it came to.
-fn walked_by(command: &Command, names: &[Name], reached: Option<Fh>, way: &mut Way)
+pub(crate) fn walked_by(command: &Command, names: &[Name], reached: Option<Fh>, way: &mut Way)
     ensures { way.exit.now ≡ walked_by command.now names.now reached way.entry.now }
 {
     if let Some(fh) = reached {
         walked(command, names.len() as u64, fh, way);
-    }
-}
-
-/// A request of a command was answered OK.
-fn step_of(command: Option<&Command>, request: Option<&Request>, reached: Option<Fh>, way: &mut Way)
-    ensures { (y : Reply) → reached ≡ reached_in y.body → way.exit.now ≡ step_of (option_copied command.entry) (plan_in (option_copied request.entry)) y way.entry.now }
-{
-    let (Some(command), Some(request)) = (command, request) else {
-        return;
-    };
-    if let Plan::Walk { names, .. } = &request.plan {
-        walked_by(command, names.as_slice(), reached, way);
-    }
-}
-
-/// A request of a command was answered, with this verdict and the filehandle that the reply came to: a walk that was answered OK leads on.
-pub fn way_after(
-    command: Option<&Command>,
-    request: Option<&Request>,
-    verdict: Option<Verdict>,
-    reached: Option<Fh>,
-    way: &mut Way,
-)
-    ensures { (y : Reply) → reached ≡ reached_in y.body → way.exit.now ≡ way_after (option_copied command.entry) (plan_in (option_copied request.entry)) verdict y way.entry.now }
-{
-    match verdict {
-        Some(Verdict::Ran(status)) if status == Status::OK => {
-            step_of(command, request, reached, way);
-        }
-        _ => {}
     }
 }
 
@@ -161,7 +131,7 @@ fn last_fh(results: &[Res]) -> Option<&Fh>
 }
 
 /// The filehandle of a last GETFH of a reply.
-pub fn reached(body: &ReplyBody) -> Result<Option<Fh>, NoMemory>
+pub(crate) fn reached(body: &ReplyBody) -> Result<Option<Fh>, NoMemory>
     ensures { IfOk result (λ fh. fh ≡ reached_in body.now) }
 {
     let ReplyBody::Results { list, .. } = body else {

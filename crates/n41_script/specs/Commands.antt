@@ -11,9 +11,11 @@ use Rattle.n41_commands.specs.declared.verb.Verb.TheVariants as verb
 -- the verbs whose commands are built
 abbrev pub is_built : Verb → Bool
 is_built verb.Stat = true
+is_built verb.List = true
 is_built verb.MakeDir = true
 is_built verb.Remove = true
 is_built verb.Rename = true
+is_built verb.Pause = true
 is_built v = false
 
 -- the verb that a word is, of those that are built

@@ -15,7 +15,7 @@ fn is_built(verb: Verb) -> bool
 {
     matches!(
         verb,
-        Verb::Stat | Verb::MakeDir | Verb::Remove | Verb::Rename
+        Verb::Stat | Verb::List | Verb::MakeDir | Verb::Remove | Verb::Rename | Verb::Pause
     )
 }
 

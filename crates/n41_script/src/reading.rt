@@ -1,18 +1,21 @@
 // The lines of a script, read one after another.
-ghost use Rattle.std.specs.Prelude.{◌≡◌, ◌<◌, ◌∷◌, ◌++◌, [], length, IfOk, IfErr, OnOk};
+ghost use Rattle.std.specs.Prelude.{◌≡◌, ◌<◌, ◌≤◌, ◌∷◌, ◌++◌, [], length, IfOk, IfErr, IfSome, OnOk, Err, if◌then◌else◌};
 ghost use Rattle.n41_words.specs.Lines.{lines, words};
+ghost use Rattle.n41_commands.specs.Heads.{ids, owner};
+ghost use Rattle.n41_words.specs.declared.fault.LineKind.TheVariants as kind;
 ghost use Rattle.n41_script.specs.Callers.{caller_limit};
 ghost use Rattle.n41_script.specs.Faults.{Leaves, Numbers};
-ghost use Rattle.n41_script.specs.Scripts.{nothing, is_full, after_caller, after_words, after_line, said_by, IsOf, IsScript, IsLineFault, IsFault};
+ghost use Rattle.n41_script.specs.Scripts.{nothing, is_full, may_stand, with_ids, with_owner, after_head, after_caller, after_words, after_line, said_by, ids_of, owner_of, IsOf, IsScript, IsLineFault, IsFault};
 
 use crate::callers::place_of;
 use crate::commands::command_of;
 use crate::lines::{is_long, readable};
 use crate::script::{Script, ScriptLine};
-use n41_commands::{is_caller, is_kept};
+use n41_commands::{Ids, is_caller, is_kept, read_ids, read_owner};
 use n41_types::{Bytes, Name, NoMemory, Sequence};
 use n41_words::{
-    LineFault, LineKind, ScriptFault, has_control, is_skipped, missing, next_line, next_word,
+    LineFault, LineKind, ScriptFault, has_control, is_skipped, is_word, missing, next_line,
+    next_word,
 };
 use std::alloc::Global;
 use std::marker::Model;
@@ -26,23 +29,50 @@ const CALLER_LIMIT: usize = 64;
 /// The commands that a script may have.
 const COMMAND_LIMIT: usize = 100_000;
 
+/// Whom the requests are of, where a script names nobody too.
+fn ids_of(ids: Option<Ids>) -> Ids
+    ensures { result ≡ ids_of ids }
+{
+    match ids {
+        None => Ids {
+            uid: 1000,
+            gid: 1000,
+        },
+        Some(ids) => ids,
+    }
+}
+
+/// The owner, where a script names none too.
+fn owner_of(alloc: Global, owner: Option<Bytes>) -> Result<Bytes, NoMemory>
+    requires { IfSome owner (λ o. length o ≤ 255) }
+    ensures is { IfOk result (λ o. o ≡ owner_of owner) }
+    ensures bound { IfOk result (λ o. length o ≤ 255) }
+{
+    match owner {
+        None => Bytes::copy_from_slice(alloc, b"n41"),
+        Some(owner) => Ok(owner),
+    }
+}
+
 /// What the lines so far say.
 #[derive(Drop)]
 struct Reading {
+    ids: Option<Ids>,
+    owner: Option<Bytes>,
     callers: Vec<Name>,
     lines: Vec<ScriptLine>,
 }
 
 impl Model for Reading {
-    ghost use Rattle.std.specs.Prelude.{◌≤◌, vec_len};
+    ghost use Rattle.std.specs.Prelude.{◌≤◌, length, vec_len, IfSome};
     ghost use Rattle.n41_script.specs.Callers.{caller_limit};
     ghost use Rattle.n41_script.specs.Scripts.{Said};
 
     ghost Value = { Said };
 
-    ghost view = { λ r. record { callers = r.callers.items; lines = r.lines.items } };
+    ghost view = { λ r. record { ids = r.ids; owner = r.owner; callers = r.callers.items; lines = r.lines.items } };
 
-    ghost invariant = { λ r. vec_len r.callers ≤ caller_limit };
+    ghost invariant = { λ r. (vec_len r.callers ≤ caller_limit) × IfSome r.owner (λ o. length o ≤ 255) };
 }
 
 impl Reading {
@@ -50,6 +80,8 @@ impl Reading {
         ensures { result ≡ nothing }
     {
         Reading {
+            ids: None,
+            owner: None,
             callers: Vec::new(alloc),
             lines: Vec::new(alloc),
         }
@@ -105,6 +137,47 @@ impl Reading {
         Ok(())
     }
 
+    /// Reads who the client's requests are of.
+    fn take_ids(&mut self, long: bool, text: &[u8]) -> Result<(), LineFault>
+        ensures { Leaves result self.new (if may_stand self.old self.old.ids then with_ids self.old (ids long (words text.now)) else Err kind.Plan) }
+    {
+        if !self.lines.is_empty() || self.ids.is_some() {
+            return Err(LineFault::Kind(LineKind::Plan));
+        }
+        self.ids = Some(read_ids(long, text)?);
+        Ok(())
+    }
+
+    /// Reads the owner of the client id.
+    fn take_owner(&mut self, alloc: Global, long: bool, text: &[u8]) -> Result<(), LineFault>
+        ensures { Leaves result self.new (if may_stand self.old self.old.owner then with_owner self.old (owner long (words text.now)) else Err kind.Plan) }
+    {
+        if !self.lines.is_empty() || self.owner.is_some() {
+            return Err(LineFault::Kind(LineKind::Plan));
+        }
+        self.owner = Some(read_owner(alloc, long, text)?);
+        Ok(())
+    }
+
+    /// Reads a line that is of no caller.
+    fn take_head(
+        &mut self,
+        alloc: Global,
+        long: bool,
+        word: &[u8],
+        text: &[u8],
+    ) -> Result<(), LineFault>
+        ensures { Leaves result self.new (after_head self.old long word.now (words text.now)) }
+    {
+        if is_word(word, b"user") {
+            return self.take_ids(long, text);
+        }
+        if is_word(word, b"owner") {
+            return self.take_owner(alloc, long, text);
+        }
+        Err(LineFault::Kind(LineKind::Plan))
+    }
+
     /// Reads the words of a line.
     fn take_words(&mut self, alloc: Global, long: bool, text: &[u8]) -> Result<(), LineFault>
         ensures { Leaves result self.new (after_words self.old long (words text.now)) }
@@ -116,7 +189,7 @@ impl Reading {
             return Err(LineFault::Kind(LineKind::Byte));
         }
         if is_kept(word) {
-            return Err(LineFault::Kind(LineKind::Command));
+            return self.take_head(alloc, long, word, rest);
         }
         if !is_caller(word) {
             return Err(LineFault::Kind(LineKind::Caller));
@@ -136,14 +209,16 @@ impl Reading {
 
     /// The script that says so much.
     fn into_script(self, alloc: Global) -> Result<Script, NoMemory>
-        ensures { IfOk result (λ s. IsOf self s) }
+        ensures is { IfOk result (λ s. IsOf self s) }
+        ensures owner { IfOk result (λ s. length s.owner ≤ 255) }
     {
-        let owner = Bytes::copy_from_slice(alloc, b"n41")?;
+        let Ids { uid, gid } = ids_of(self.ids);
+        let owner = owner_of(alloc, self.owner)?;
         let callers = Sequence::from_vec(alloc, self.callers)?;
         let lines = Sequence::from_vec(alloc, self.lines)?;
         Ok(Script {
-            uid: 1000,
-            gid: 1000,
+            uid,
+            gid,
             owner,
             callers,
             lines,
@@ -173,6 +248,7 @@ fn read_lines(alloc: Global, text: &[u8]) -> Result<Reading, ScriptFault>
 /// has the fault `Limit` at line 0.
 pub fn read_script(alloc: Global, text: &[u8]) -> Result<Script, ScriptFault>
     ensures ok { IfOk result (λ s. IsScript text.now s) }
+    ensures owner { IfOk result (λ s. length s.owner ≤ 255) }
     ensures err { IfErr result (λ f. IsFault text.now f) }
 {
     if text.len() > SCRIPT_LIMIT {

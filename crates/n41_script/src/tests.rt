@@ -99,6 +99,8 @@ fn commands_that_are_built_are_read(rt: HostRuntime) {
     let alloc = rt.alloc();
     for text in [
         b"a stat /a/b\n".as_slice(),
+        b"a list /\nb list /a/b\n".as_slice(),
+        b"a pause 0\na pause 600\n".as_slice(),
         b"a mkdir /a\na remove /a/b\n".as_slice(),
         b"a rename /a /b/c".as_slice(),
     ] {
@@ -108,7 +110,7 @@ fn commands_that_are_built_are_read(rt: HostRuntime) {
 
 #[test]
 fn lines_are_refused(rt: HostRuntime) {
-    let cases: [(&[u8], u64, LineKind); 25] = [
+    let cases: [(&[u8], u64, LineKind); 32] = [
         (b"\t", 1, LineKind::Byte),
         (b"\n\na\x7f", 3, LineKind::Byte),
         (b"a \x1fstat /", 1, LineKind::Byte),
@@ -118,14 +120,21 @@ fn lines_are_refused(rt: HostRuntime) {
         (b"A stat /", 1, LineKind::Caller),
         (b"a-b", 1, LineKind::Caller),
         (b"abcdefghijklmnopq stat /", 1, LineKind::Caller),
-        (b"plan on 1 OPEN break", 1, LineKind::Command),
-        (b"user 1 1", 1, LineKind::Command),
-        (b"owner x", 1, LineKind::Command),
+        (b"plan on 1 OPEN break", 1, LineKind::Plan),
         (b"a stat /\n\na", 3, LineKind::Command),
         (b"a creat \x01", 1, LineKind::Command),
-        (b"a list /", 1, LineKind::Command),
-        (b"a pause 1", 1, LineKind::Command),
         (b"a create f /a", 1, LineKind::Command),
+        (b"a new f /a", 1, LineKind::Command),
+        (b"a open f /a r", 1, LineKind::Command),
+        (b"a read f 0 1", 1, LineKind::Command),
+        (b"a close f", 1, LineKind::Command),
+        (b"a list", 1, LineKind::Words),
+        (b"a list / /", 1, LineKind::Words),
+        (b"a list a", 1, LineKind::Path),
+        (b"a pause", 1, LineKind::Words),
+        (b"a pause 601", 1, LineKind::Number),
+        (b"a pause -1", 1, LineKind::Number),
+        (b"a pause 1 1", 1, LineKind::Words),
         (b"a stat x", 1, LineKind::Path),
         (b"a stat /a//b", 1, LineKind::Path),
         (b"a mkdir /", 1, LineKind::Path),
@@ -138,6 +147,63 @@ fn lines_are_refused(rt: HostRuntime) {
     for (text, line, kind) in cases {
         assert_eq!(rt; fault_of(rt.alloc(), text), Some((line, kind)));
     }
+}
+
+/// Whether the text names these, and nothing else.
+fn names(alloc: Global, text: &[u8], ids: (u32, u32), owner: &[u8]) -> bool {
+    match read_script(alloc, text) {
+        Ok(script) => (script.uid, script.gid) == ids && script.owner.as_slice() == owner,
+        Err(_) => false,
+    }
+}
+
+#[test]
+fn heads_are_read(rt: HostRuntime) {
+    let cases: [(&[u8], (u32, u32), &[u8]); 4] = [
+        (b"user 0 4294967295", (0, 4_294_967_295), b"n41"),
+        (b"owner x-Y\n\na stat /", (1000, 1000), b"x-Y"),
+        (b"#\nowner users\n user  7 8 \na stat /", (7, 8), b"users"),
+        (b"user 7 8\nowner n\xc3\xa9", (7, 8), b"n\xc3\xa9"),
+    ];
+    for (text, ids, owner) in cases {
+        assert!(rt; names(rt.alloc(), text, ids, owner));
+    }
+}
+
+#[test]
+fn heads_are_refused(rt: HostRuntime) {
+    let cases: [(&[u8], u64, LineKind); 14] = [
+        (b"user", 1, LineKind::Words),
+        (b"user 1", 1, LineKind::Words),
+        (b"user 1 2 3", 1, LineKind::Words),
+        (b"user 1 2 \x01", 1, LineKind::Byte),
+        (b"user \x01", 1, LineKind::Byte),
+        (b"user 01 2", 1, LineKind::Number),
+        (b"user 1 4294967296", 1, LineKind::Number),
+        (b"user 1 1\n\nuser x", 3, LineKind::Plan),
+        (b"a stat /\nuser 1 1", 2, LineKind::Plan),
+        (b"owner", 1, LineKind::Words),
+        (b"owner x y", 1, LineKind::Words),
+        (b"owner \x7f", 1, LineKind::Byte),
+        (b"owner x\nowner x", 2, LineKind::Plan),
+        (b"a stat /\nowner", 2, LineKind::Plan),
+    ];
+    for (text, line, kind) in cases {
+        assert_eq!(rt; fault_of(rt.alloc(), text), Some((line, kind)));
+    }
+}
+
+#[test]
+fn an_owner_has_255_bytes(rt: HostRuntime) -> Result<(), NoMemory> {
+    let cases = [(254, None), (255, Some(LineKind::Limit))];
+    for (count, want) in cases {
+        let text = text_of(rt.alloc(), Filled(b"owner x", b'y', count))?;
+        assert_eq!(rt;
+            fault_of(rt.alloc(), text.as_slice()),
+            want.map(|kind| (1, kind))
+        );
+    }
+    Ok(())
 }
 
 #[test]

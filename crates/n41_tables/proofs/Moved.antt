@@ -44,13 +44,13 @@ tried_room t w xs h r l e =
     let n : t.facts.events ≡ w.facts.events = ap (λ (v : View). v.facts.events) h in
     rw e (tried_more t.facts.events 18446744073709551614 t.seats.items (omega arith) r.sound.tried)
 
-pub began_moved : (t : Inside) (f : Facts) (q : List Seat) (d n : ℕ) (k : Command) → f ≡ counted t.facts → q ≡ map (began_seat d n k (t.facts.events + 1)) t.seats.items → tables_of f t.bare t.slots.items q ≡ step (inside t) (Began d n k 0)
-began_moved t f q d n k hf hq =
-    parts f t.bare t.slots.items q (step (inside t) (Began d n k 0)) hf refl refl
-    (hq ∙ ap (λ (i : ℕ). map (began_seat d n k i) t.seats.items) (add-one t.facts.events))
+pub began_moved : (t : Inside) (f : Facts) (q : List Seat) (d n : ℕ) (k : Command) (m : ℕ) → f ≡ counted t.facts → q ≡ map (began_seat d n k m (t.facts.events + 1)) t.seats.items → tables_of f t.bare t.slots.items q ≡ step (inside t) (Began d n k m)
+began_moved t f q d n k m hf hq =
+    parts f t.bare t.slots.items q (step (inside t) (Began d n k m)) hf refl refl
+    (hq ∙ ap (λ (i : ℕ). map (began_seat d n k m i) t.seats.items) (add-one t.facts.events))
 
-pub answered_moved : (t : Inside) (f : Facts) (q : List Seat) (d : ℕ) (a : Answer) → f ≡ counted t.facts → q ≡ map (answered_seat d) t.seats.items → tables_of f t.bare t.slots.items q ≡ step (inside t) (Answered d 0 a)
-answered_moved t f q d a hf hq = parts f t.bare t.slots.items q (step (inside t) (Answered d 0 a)) hf refl refl hq
+pub answered_moved : (t : Inside) (f : Facts) (q : List Seat) (d n : ℕ) (a : Answer) → f ≡ counted t.facts → q ≡ map (answered_seat d) t.seats.items → tables_of f t.bare t.slots.items q ≡ step (inside t) (Answered d n a)
+answered_moved t f q d n a hf hq = parts f t.bare t.slots.items q (step (inside t) (Answered d n a)) hf refl refl hq
 
 pub dialed_moved : (t : Inside) (f g : Facts) (s : List Slot) (c : ℕ) → g ≡ dialed_facts c t.facts → f ≡ counted g → s ≡ map dialed_slot t.slots.items → tables_of f t.bare s t.seats.items ≡ step (inside t) (Dialed c)
 dialed_moved t f g s c hg hf hs = parts f t.bare s t.seats.items (step (inside t) (Dialed c)) (hf ∙ ap (λ (h : Facts). counted h) hg) refl hs refl

@@ -1,24 +1,24 @@
 -- A step for one caller or one slot leaves the others, so that it is a change at one place.
-use Rattle.std.proofs.Common.{◌≡◌, ◌≢◌, ℕ, ◌+◌, ◌<◌, ◌≤◌, ◌==◌, Bool, true, false, length, List, map, set, get_or, Option, Some, None, if◌then◌else◌, refl, sym, ◌∙◌, ap, arith, zero-add, eq-eqb}
+use Rattle.std.proofs.Common.{◌≡◌, ◌≢◌, ℕ, ◌+◌, ◌<◌, ◌≤◌, ◌==◌, Bool, true, false, length, List, map, set, get_or, Option, Some, None, slice_get, refl, sym, ◌∙◌, ap, arith, zero-add, eq-eqb}
 use Rattle.std.proofs.lemmas.Bool.{eqb-true, ne_eqb}
+use Rattle.std.proofs.lemmas.Option.{slice_get-get_or, slice_get_past}
+use Rattle.n41_types.specs.declared.commands.Answer.{Answer}
 use Rattle.n41_types.specs.declared.commands.Command.{Command}
 use Rattle.n41_types.specs.declared.plans.Request.{Request}
 use Rattle.n41_types.specs.declared.plans.SlotUse.{SlotUse}
 use Rattle.n41_results.specs.declared.replies.Reply.{Reply}
 use Rattle.n41_model.specs.Requests.{is_on, is_use_of, is_bare, is_bare_use}
-use Rattle.n41_model.specs.Calls.{is_caller, fresh_call, way_of, put_call, took_call}
+use Rattle.n41_model.specs.Calls.{is_caller, fresh_call, way_of, put_call, took_call, answered_call}
 use Rattle.n41_view.specs.declared.tables.Seat.{Seat}
 use Rattle.n41_view.specs.declared.tables.Slot.{Slot}
 use Rattle.n41_view.specs.Step.{put_slot, began_seat, put_seat, took_seat, answered_seat, with_call, call_of, Said}
+use Rattle.n41_chosen.proofs.Choices.{then_of, else_of}
+use Rattle.n41_tables.specs.Earned.{earned_at}
 use Rattle.n41_tables.specs.Sound.{IsPlaced, slot_place, seat_place}
 use Rattle.n41_tables.proofs.Places.{place_at, step_nothing, step_off, step_past, step_there}
 
-pub else_of : {A : Type 0} (b : Bool) (x y : A) → b ≡ false → (if b then x else y) ≡ y
-else_of true x y e = absurd (cc)
-else_of false x y e = refl
-
-began_other : (d n : ℕ) (k : Command) (at : ℕ) (s : Seat) → seat_place s ≢ d → began_seat d n k at s ≡ s
-began_other d n k at s h = else_of (d == s.caller) _ s (ne_eqb d s.caller (λ e. h (sym e)))
+began_other : (d n : ℕ) (k : Command) (m at : ℕ) (s : Seat) → seat_place s ≢ d → began_seat d n k m at s ≡ s
+began_other d n k m at s h = else_of (d == s.caller) _ s (ne_eqb d s.caller (λ e. h (sym e)))
 
 answered_other : (d : ℕ) (s : Seat) → seat_place s ≢ d → answered_seat d s ≡ s
 answered_other d s h = else_of (d == s.caller) _ s (ne_eqb d s.caller (λ e. h (sym e)))
@@ -41,33 +41,42 @@ slot_other m r o i s e h = else_of (is_on r s.number) _ s (not_on r.slot i s.num
 
 -- ---- whole lists
 
-pub then_of : {A : Type 0} (b : Bool) (x y : A) → b ≡ true → (if b then x else y) ≡ x
-then_of true x y e = refl
-then_of false x y e = absurd (cc)
-
 same_place : (d : ℕ) (ss : List Seat) (x : Seat) → IsPlaced seat_place 0 ss → d < length ss → (d == (get_or ss d x).caller) ≡ true
 same_place d ss x p l = let e : (get_or ss d x).caller ≡ 0 + d = place_at seat_place 0 d ss x p l in eq-eqb d (get_or ss d x).caller (omega arith)
 
 is_there : (o : Option ℕ) (d : ℕ) (ss : List Seat) (x : Seat) → o ≡ Some d → IsPlaced seat_place 0 ss → d < length ss → is_caller o (get_or ss d x).caller ≡ true
 is_there o d ss x e p l = rw e (same_place d ss x p l)
 
-pub began_there : (d n : ℕ) (k : Command) (at : ℕ) (ss : List Seat) (x t : Seat) → IsPlaced seat_place 0 ss → d < length ss → t ≡ with_call (record (get_or ss d x) { command = Some k; number = n; began_at = at }) (fresh_call (way_of k)) → set ss d t ≡ map (began_seat d n k at) ss
-began_there d n k at ss x t p l e =
-    let g = then_of (d == (get_or ss d x).caller) (with_call (record (get_or ss d x) { command = Some k; number = n; began_at = at }) (fresh_call (way_of k))) (get_or ss d x) (same_place d ss x p l) in
-    let h = step_there (began_seat d n k at) seat_place 0 d d ss x p (began_other d n k at) (omega arith) l in
+abbrev pub began : ℕ → Command → ℕ → ℕ → Seat → Seat
+began n k m at s = with_call (record s { command = Some k; number = n; began_at = at; began_on = m }) (fresh_call (way_of k))
+
+pub began_there : (d n : ℕ) (k : Command) (m at : ℕ) (ss : List Seat) (x t : Seat) → IsPlaced seat_place 0 ss → d < length ss → t ≡ began n k m at (get_or ss d x) → set ss d t ≡ map (began_seat d n k m at) ss
+began_there d n k m at ss x t p l e =
+    let g = then_of (d == (get_or ss d x).caller) (began n k m at (get_or ss d x)) (get_or ss d x) (same_place d ss x p l) in
+    let h = step_there (began_seat d n k m at) seat_place 0 d d ss x p (began_other d n k m at) (omega arith) l in
     ap (λ (s : Seat). set ss d s) (e ∙ sym g) ∙ h
 
-pub began_past : (d n : ℕ) (k : Command) (at : ℕ) (ss : List Seat) → IsPlaced seat_place 0 ss → length ss ≤ d → map (began_seat d n k at) ss ≡ ss
-began_past d n k at ss p l = step_past (began_seat d n k at) seat_place 0 d ss p (began_other d n k at) (omega arith)
+pub began_past : (d n : ℕ) (k : Command) (m at : ℕ) (ss : List Seat) → IsPlaced seat_place 0 ss → length ss ≤ d → map (began_seat d n k m at) ss ≡ ss
+began_past d n k m at ss p l = step_past (began_seat d n k m at) seat_place 0 d ss p (began_other d n k m at) (omega arith)
 
-pub answered_there : (d : ℕ) (ss : List Seat) (x t : Seat) → IsPlaced seat_place 0 ss → d < length ss → t ≡ record (get_or ss d x) { command = None } → set ss d t ≡ map (answered_seat d) ss
+abbrev pub answered : Seat → Seat
+answered s = with_call (record s { command = None }) (answered_call (call_of s))
+
+pub answered_there : (d : ℕ) (ss : List Seat) (x t : Seat) → IsPlaced seat_place 0 ss → d < length ss → t ≡ answered (get_or ss d x) → set ss d t ≡ map (answered_seat d) ss
 answered_there d ss x t p l e =
-    let g = then_of (d == (get_or ss d x).caller) (record (get_or ss d x) { command = None }) (get_or ss d x) (same_place d ss x p l) in
+    let g = then_of (d == (get_or ss d x).caller) (answered (get_or ss d x)) (get_or ss d x) (same_place d ss x p l) in
     let h = step_there (answered_seat d) seat_place 0 d d ss x p (answered_other d) (omega arith) l in
     ap (λ (s : Seat). set ss d s) (e ∙ sym g) ∙ h
 
 pub answered_past : (d : ℕ) (ss : List Seat) → IsPlaced seat_place 0 ss → length ss ≤ d → map (answered_seat d) ss ≡ ss
 answered_past d ss p l = step_past (answered_seat d) seat_place 0 d ss p (answered_other d) (omega arith)
+
+-- the answer that a seat gives up
+pub earned_there : (d : ℕ) (ss : List Seat) (x : Seat) (a : Option Answer) → d < length ss → a ≡ (get_or ss d x).earned → a ≡ earned_at (slice_get ss d)
+earned_there d ss x a l e = e ∙ sym (ap (λ (o : Option Seat). earned_at o) (slice_get-get_or ss d x l))
+
+pub earned_past : (d : ℕ) (ss : List Seat) → length ss ≤ d → None ≡ earned_at (slice_get ss d)
+earned_past d ss l = sym (ap (λ (o : Option Seat). earned_at o) (slice_get_past ss d l))
 
 pub put_there : (o : Option ℕ) (d : ℕ) (ss : List Seat) (x t : Seat) → o ≡ Some d → IsPlaced seat_place 0 ss → d < length ss → t ≡ with_call (get_or ss d x) (put_call (call_of (get_or ss d x))) → set ss d t ≡ map (put_seat o) ss
 put_there o d ss x t q p l e =

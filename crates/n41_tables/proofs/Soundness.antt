@@ -1,5 +1,5 @@
 -- Each event leaves the tables sound.
-use Rattle.std.proofs.Common.{◌≡◌, ℕ, zero, suc, ◌+◌, ◌<◌, ◌≤◌, ◌==◌, get_or, Bool, true, false, length, List, [], ◌∷◌, map, min, Option, Some, None, if◌then◌else◌, refl, ◌∙◌, ap, arith}
+use Rattle.std.proofs.Common.{◌≡◌, ℕ, zero, suc, ◌+◌, ◌<◌, ◌≤◌, ◌==◌, get_or, Bool, true, false, ◌&&◌, length, List, [], ◌∷◌, map, min, Option, Some, None, if◌then◌else◌, refl, ◌∙◌, ap, arith}
 use Rattle.std.proofs.lemmas.List.{length-map}
 use Rattle.n41_types.specs.declared.commands.Command.{Command}
 use Rattle.n41_results.specs.declared.replies.Reply.{Reply}
@@ -81,8 +81,8 @@ attempts_least w n = same n
 attempts_of : Seat → ℕ
 attempts_of s = s.attempts
 
-began_tried : (d n : ℕ) (k : Command) (at m : ℕ) (s : Seat) → s.attempts ≤ m → (began_seat d n k at s).attempts ≤ suc m
-began_tried d n k at m s l = least_either (λ (t : Seat). t.attempts) (d == s.caller) _ s (suc m) (none (suc m)) (more _ _ l)
+began_tried : (d n : ℕ) (k : Command) (on at m : ℕ) (s : Seat) → s.attempts ≤ m → (began_seat d n k on at s).attempts ≤ suc m
+began_tried d n k on at m s l = least_either (λ (t : Seat). t.attempts) (d == s.caller) _ s (suc m) (none (suc m)) (more _ _ l)
 
 put_tried : (o : Option ℕ) (m : ℕ) (s : Seat) → s.attempts ≤ m → (put_seat o s).attempts ≤ suc m
 put_tried o m s l = least_either (λ (t : Seat). t.attempts) (is_caller o s.caller) _ s (suc m) (let e : s.attempts + 1 ≤ suc m = omega arith in e) (more _ _ l)
@@ -90,7 +90,7 @@ put_tried o m s l = least_either (λ (t : Seat). t.attempts) (is_caller o s.call
 call_tried : (n : ℕ) (a : Said) (y : Reply) (m : ℕ) (s : Seat) → s.attempts ≤ m → (with_call s (took_call n s.command a.plan a.slot y (call_of s))).attempts ≤ suc m
 call_tried n a y m s l =
     let e : attempts_after a.slot s.attempts ≤ s.attempts = attempts_least a.slot s.attempts in
-    least_either (λ (k : Call). k.attempts) (is_final y) _ (call_of s) (suc m) (let g : attempts_after a.slot s.attempts ≤ suc m = omega arith in g) (more _ _ l)
+    least_either (λ (k : Call). k.attempts) (is_final y && s.busy) _ (call_of s) (suc m) (let g : attempts_after a.slot s.attempts ≤ suc m = omega arith in g) (more _ _ l)
 
 took_tried : (n : ℕ) (a : Said) (y : Reply) (m : ℕ) (s : Seat) → s.attempts ≤ m → (took_seat n a y s).attempts ≤ suc m
 took_tried n a y m s l = least_either (λ (t : Seat). t.attempts) (is_caller a.owner s.caller) _ s (suc m) (call_tried n a y m s l) (more _ _ l)
@@ -129,14 +129,14 @@ slots_placed w (Broke c x) h = placed_map slot_place broke_slot 0 w.slots (λ s.
 slots_placed w e h = h
 
 seats_placed : (w : View) (e : Event) → IsPlaced seat_place 0 w.seats → IsPlaced seat_place 0 (step w e).seats
-seats_placed w (Began d n k m) h = placed_map seat_place (began_seat d n k (suc w.facts.events)) 0 w.seats (λ s. equal_either seat_place (d == s.caller) _ s s.caller refl refl) h
+seats_placed w (Began d n k m) h = placed_map seat_place (began_seat d n k m (suc w.facts.events)) 0 w.seats (λ s. equal_either seat_place (d == s.caller) _ s s.caller refl refl) h
 seats_placed w (Put c p r) h = placed_map seat_place (put_seat (new_owner w r)) 0 w.seats (λ s. equal_either seat_place (is_caller (new_owner w r) s.caller) _ s s.caller refl refl) h
 seats_placed w (Took c p y) h = placed_map seat_place (took_seat w.facts.moment (said w y) y) 0 w.seats (λ s. equal_either seat_place (is_caller (said w y).owner s.caller) _ s s.caller refl refl) h
 seats_placed w (Answered d n a) h = placed_map seat_place (answered_seat d) 0 w.seats (λ s. equal_either seat_place (d == s.caller) _ s s.caller refl refl) h
 seats_placed w e h = h
 
 seats_tried : (w : View) (e : Event) → IsTried w.facts.events w.seats → IsTried (suc w.facts.events) (step w e).seats
-seats_tried w (Began d n k m) h = tried_map (began_seat d n k (suc w.facts.events)) w.facts.events (suc w.facts.events) w.seats (began_tried d n k (suc w.facts.events) w.facts.events) h
+seats_tried w (Began d n k m) h = tried_map (began_seat d n k m (suc w.facts.events)) w.facts.events (suc w.facts.events) w.seats (began_tried d n k m (suc w.facts.events) w.facts.events) h
 seats_tried w (Put c p r) h = tried_map (put_seat (new_owner w r)) w.facts.events (suc w.facts.events) w.seats (put_tried (new_owner w r) w.facts.events) h
 seats_tried w (Took c p y) h = tried_map (took_seat w.facts.moment (said w y) y) w.facts.events (suc w.facts.events) w.seats (took_tried w.facts.moment (said w y) y w.facts.events) h
 seats_tried w (Answered d n a) h = tried_map (answered_seat d) w.facts.events (suc w.facts.events) w.seats (answered_tried d w.facts.events) h

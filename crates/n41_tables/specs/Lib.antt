@@ -1,3 +1,4 @@
 pub mod Sound
 pub mod Inside
 pub mod Copies
+pub mod Earned

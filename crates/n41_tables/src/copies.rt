@@ -1,58 +1,91 @@
-ghost use Rattle.std.specs.Prelude.{◌≡◌, None, IfOk};
-ghost use Rattle.n41_tables.specs.Copies.{reached_by};
+ghost use Rattle.std.specs.Prelude.{◌≡◌, None, option_map, IfOk};
+ghost use Rattle.n41_tables.specs.Copies.{reached_by, names_by, listed_by};
 
 use n41_journal::Event;
-use n41_said::reached;
-use n41_types::{Fh, NoMemory};
+use n41_model::Listed;
+use n41_said::{Brought, listed_of};
+use n41_types::NoMemory;
+use std::alloc::Global;
 use std::marker::Model;
 
-/// A copy of an event for the tables, with a filehandle of its own where it is a reply that came to one: their step takes no memory.
-/// Contracts see it as the event.
+/// A copy of an event for the tables, with what it brings of its own that takes memory: the filehandle and the names that a reply
+/// tells, and the listing that a command begins. The step of the tables takes none. Contracts see it as the event.
 #[derive(Drop)]
 pub struct EventCopy {
     pub(crate) event: Event,
-    pub(crate) reached: Option<Fh>,
+    pub(crate) brought: Brought,
+    pub(crate) listed: Option<Listed>,
 }
 
 impl Model for EventCopy {
-    ghost use Rattle.std.specs.Prelude.{◌≡◌};
+    ghost use Rattle.std.specs.Prelude.{◌≡◌, option_map};
     ghost use Rattle.n41_journal.specs.declared.events.Event.{Event};
-    ghost use Rattle.n41_tables.specs.Copies.{reached_by};
+    ghost use Rattle.n41_tables.specs.Copies.{reached_by, names_by, listed_by};
 
     ghost Value = { Event };
 
     ghost view = { λ c. c.event };
 
-    ghost invariant = { λ c. c.reached ≡ reached_by c.event };
+    ghost invariant = { λ c. (c.brought.reached ≡ reached_by c.event) × (option_map (λ v. v.items) c.brought.names ≡ names_by c.event) × (c.listed ≡ listed_by c.event) };
 }
 
-/// The filehandle that an event brings.
-fn reached_by(event: &Event) -> Result<Option<Fh>, NoMemory>
-    ensures { IfOk result (λ fh. fh ≡ reached_by event.now) }
+/// What brings nothing.
+fn nothing() -> Brought
+    ensures reached { result.reached ≡ None }
+    ensures names { result.names ≡ None }
+{
+    Brought {
+        reached: None,
+        names: None,
+    }
+}
+
+/// What the reply of an event brings.
+fn brought_by(alloc: Global, event: &Event) -> Result<Brought, NoMemory>
+    ensures reached { IfOk result (λ b. b.reached ≡ reached_by event.now) }
+    ensures names { IfOk result (λ b. option_map (λ v. v.items) b.names ≡ names_by event.now) }
 {
     match event {
-        Event::Took { reply, .. } => reached(&reply.body),
+        Event::Took { reply, .. } => Brought::of(alloc, &reply.body),
+        _ => Ok(nothing()),
+    }
+}
+
+/// The listing that an event begins.
+fn listed_by(alloc: Global, event: &Event) -> Result<Option<Listed>, NoMemory>
+    ensures { IfOk result (λ listed. listed ≡ listed_by event.now) }
+{
+    match event {
+        Event::Began { command, .. } => listed_of(alloc, command),
         _ => Ok(None),
     }
 }
 
 impl EventCopy {
     /// The copy that this event is.
-    pub fn of(event: Event) -> Result<EventCopy, NoMemory>
+    pub fn of(alloc: Global, event: Event) -> Result<EventCopy, NoMemory>
         ensures { IfOk result (λ copy. copy ≡ event) }
     {
-        let reached = reached_by(&event)?;
-        Ok(EventCopy { event, reached })
+        let brought = brought_by(alloc, &event)?;
+        let listed = listed_by(alloc, &event)?;
+        Ok(EventCopy {
+            event,
+            brought,
+            listed,
+        })
     }
 
-    /// The copy that an event is which brings no filehandle. It takes no memory.
+    /// The copy that an event is which brings nothing. It takes no memory.
     pub fn plain(event: Event) -> EventCopy
-        requires { reached_by event ≡ None }
+        requires reached { reached_by event ≡ None }
+        requires names { names_by event ≡ None }
+        requires listed { listed_by event ≡ None }
         ensures { result ≡ event }
     {
         EventCopy {
             event,
-            reached: None,
+            brought: nothing(),
+            listed: None,
         }
     }
 }

@@ -1,7 +1,6 @@
 //! The tables of a client's core, and the step by which an event moves them.
 #![tactic(auto)]
 
-mod chosen;
 mod copies;
 mod facts;
 mod seats;
@@ -10,6 +9,5 @@ mod tables;
 #[cfg(test)]
 mod tests;
 
-pub use chosen::new_owner;
 pub use copies::EventCopy;
 pub use tables::Tables;

@@ -1,22 +1,33 @@
-ghost use Rattle.std.specs.Prelude.{◌≡◌, ◌+◌, ◌-◌, ◌<◌, ◌^◌, None, Some, map, if◌then◌else◌};
-ghost use Rattle.n41_model.specs.Calls.{fresh_call, put_call, took_call, is_put_off_by, way_of, reached_in};
+ghost use Rattle.std.specs.Prelude.{◌≡◌, ◌+◌, ◌-◌, ◌<◌, ◌^◌, None, Some, map, option_map, slice_get, if◌then◌else◌};
+ghost use Rattle.n41_model.specs.Calls.{fresh_call, put_call, took_call, answered_call, is_put_off_by, listed_of, way_of, listing_in, reached_in};
+ghost use Rattle.n41_said.specs.Listings.{names_told};
 ghost use Rattle.n41_view.specs.Step.{with_call, call_of, began_seat, put_seat, took_seat, answered_seat};
+ghost use Rattle.n41_tables.specs.Earned.{earned_at};
 ghost use Rattle.n41_tables.specs.Sound.{IsPlaced, IsTried, seat_place};
 
-use n41_model::{Verdict, is_final};
+use n41_model::{Listed, Verdict, is_final};
 use n41_results::Reply;
-use n41_said::{Said, answer_in, attempts_after, is_put_off_by, way_after, way_of};
-use n41_types::{Command, Fh};
+use n41_said::{Brought, Said, attempts_after, is_put_off_by, took_way, way_of};
+use n41_types::{Answer, Command};
 use n41_view::Seat;
 
-/// A caller gave a command: its number, and the place where it began.
-fn began_seat(number: u64, command: Command, place: u64, seat: &mut Seat)
-    ensures { seat.new ≡ with_call (record seat.old { command = Some command; number = number; began_at = place }) (fresh_call (way_of command)) }
+/// A caller gave a command: its number, the listing that it begins, and the moment and the place where it began.
+fn began_seat(
+    number: u64,
+    command: Command,
+    listed: Option<Listed>,
+    moment: u64,
+    place: u64,
+    seat: &mut Seat,
+)
+    requires { listed ≡ listed_of command }
+    ensures { seat.new ≡ with_call (record seat.old { command = Some command; number = number; began_at = place; began_on = moment }) (fresh_call (way_of command)) }
 {
-    seat.way = way_of(&command);
+    seat.way = way_of(&command, listed);
     drop(seat.command.replace(command));
     seat.number = number;
     seat.began_at = place;
+    seat.began_on = moment;
     seat.busy = false;
     seat.since = None;
     seat.attempts = 0;
@@ -28,19 +39,23 @@ pub(crate) fn began_seats(
     caller: u32,
     number: u64,
     command: Command,
+    listed: Option<Listed>,
+    moment: u64,
     place: u64,
     seats: &mut [Seat],
 )
-    requires { IsPlaced seat_place 0 seats.old }
-    ensures { seats.new ≡ map (began_seat caller number command place) seats.old }
+    requires placed { IsPlaced seat_place 0 seats.old }
+    requires listed { listed ≡ listed_of command }
+    ensures { seats.new ≡ map (began_seat caller number command moment place) seats.old }
 {
     let index = caller as usize;
     if index >= seats.len() {
         drop(command);
+        drop(listed);
         return;
     }
     let seat = &mut seats[index];
-    began_seat(number, command, place, seat);
+    began_seat(number, command, listed, moment, place, seat);
 }
 
 /// A request of a caller is put.
@@ -81,12 +96,13 @@ fn since_after(verdict: Option<Verdict>, attempts: u64, moment: u64) -> Option<u
     }
 }
 
-/// A reply to a request of a caller is taken, with the filehandle that it came to.
-fn took_seat(moment: u64, said: &Said, reply: &Reply, reached: Option<Fh>, seat: &mut Seat)
-    requires { reached ≡ reached_in reply.now.body }
+/// A reply to a request of a caller is taken, with what it brings. It changes nothing where no request of the caller's command is out.
+fn took_seat(moment: u64, said: &Said, reply: &Reply, brought: Brought, seat: &mut Seat)
+    requires reached { brought.reached ≡ reached_in reply.now.body }
+    requires names { option_map (λ v. v.items) brought.names ≡ names_told (listing_in reply.now.body) }
     ensures { seat.new ≡ with_call seat.old (took_call moment seat.old.command said.now.plan said.now.slot reply.now (call_of seat.old)) }
 {
-    if !is_final(reply) {
+    if !is_final(reply) || !seat.busy {
         return;
     }
     let attempts = seat.attempts;
@@ -94,12 +110,13 @@ fn took_seat(moment: u64, said: &Said, reply: &Reply, reached: Option<Fh>, seat:
     seat.busy = false;
     seat.since = since_after(said.slot, attempts, moment);
     seat.attempts = attempts_after(said.slot, attempts);
-    seat.earned = answer_in(said.request, said.slot, attempts, reply);
-    way_after(
+    seat.earned = took_way(
         seat.command.as_ref(),
         said.request,
         said.slot,
-        reached,
+        attempts,
+        reply,
+        brought,
         &mut seat.way,
     );
 }
@@ -109,11 +126,12 @@ pub(crate) fn took_seats(
     moment: u64,
     said: &Said,
     reply: &Reply,
-    reached: Option<Fh>,
+    brought: Brought,
     seats: &mut [Seat],
 )
     requires placed { IsPlaced seat_place 0 seats.old }
-    requires reached { reached ≡ reached_in reply.now.body }
+    requires reached { brought.reached ≡ reached_in reply.now.body }
+    requires names { option_map (λ v. v.items) brought.names ≡ names_told (listing_in reply.now.body) }
     ensures { seats.new ≡ map (took_seat moment said.now reply.now) seats.old }
 {
     let Some(caller) = said.owner else {
@@ -124,25 +142,28 @@ pub(crate) fn took_seats(
         return;
     }
     let seat = &mut seats[index];
-    took_seat(moment, said, reply, reached, seat);
+    took_seat(moment, said, reply, brought, seat);
 }
 
-/// A command of a caller was answered.
-fn answered_seat(seat: &mut Seat)
-    ensures { seat.new ≡ record seat.old { command = None } }
+/// A command of a caller was answered: the seat gives up the answer that its last reply gave.
+fn answered_seat(seat: &mut Seat) -> Option<Answer>
+    ensures earned { result ≡ seat.old.earned }
+    ensures seat { seat.new ≡ with_call (record seat.old { command = None }) (answered_call (call_of seat.old)) }
 {
     drop(seat.command.take());
+    seat.earned.take()
 }
 
-/// A command was answered, if there is this caller.
-pub(crate) fn answered_seats(caller: u32, seats: &mut [Seat])
+/// A command was answered, if there is this caller: its seat gives up the answer that its last reply gave.
+pub(crate) fn answered_seats(caller: u32, seats: &mut [Seat]) -> Option<Answer>
     requires { IsPlaced seat_place 0 seats.old }
-    ensures { seats.new ≡ map (answered_seat caller) seats.old }
+    ensures earned { result ≡ earned_at (slice_get seats.old caller) }
+    ensures seats { seats.new ≡ map (answered_seat caller) seats.old }
 {
     let index = caller as usize;
     if index >= seats.len() {
-        return;
+        return None;
     }
     let seat = &mut seats[index];
-    answered_seat(seat);
+    answered_seat(seat)
 }

@@ -1,19 +1,23 @@
-ghost use Rattle.std.specs.Prelude.{◌≡◌, ◌+◌, ◌<◌, ◌^◌, suc, map, true, [], IfOk, option_copied};
+ghost use Rattle.std.specs.Prelude.{◌≡◌, ◌+◌, ◌<◌, ◌^◌, ℕ, suc, map, true, [], IfOk, option_copied, option_map, slice_get};
+ghost use Rattle.n41_types.specs.declared.commands.Answer.{Answer as AnswerValue};
+ghost use Rattle.n41_journal.specs.declared.events.Event.{Event as EventValue};
 ghost use Rattle.n41_model.specs.Requests.{session_in};
-ghost use Rattle.n41_model.specs.Calls.{reached_in};
+ghost use Rattle.n41_model.specs.Calls.{listed_of, listing_in, reached_in};
+ghost use Rattle.n41_said.specs.Listings.{names_told};
 ghost use Rattle.n41_view.specs.View.{view};
-ghost use Rattle.n41_view.specs.Step.{step, counted, put_facts, took_facts, ended_round, dialed_facts, broke_facts, put_bare, took_bare, put_slot, took_slot, dialed_slot, broke_slot, slots_made, began_seat, put_seat, took_seat, answered_seat, new_owner, said};
+ghost use Rattle.n41_view.specs.Step.{step, counted, put_facts, took_facts, ended_round, dialed_facts, broke_facts, put_bare, took_bare, put_slot, took_slot, dialed_slot, broke_slot, slots_made, began_seat, put_seat, took_seat, new_owner, said};
+ghost use Rattle.n41_tables.specs.Earned.{earned_at};
 
-use crate::chosen::new_owner;
 use crate::copies::EventCopy;
 use crate::facts::{broke_facts, counted, dialed_facts, ended_round, put_facts, took_facts};
 use crate::seats::{answered_seats, began_seats, put_seats, took_seats};
 use crate::slots::{broke_slots, dialed_slots, put_request, slots_made, took_bare, took_slots};
+use n41_chosen::new_owner;
 use n41_journal::Event;
-use n41_model::{Phase, Way};
+use n41_model::{Listed, Phase, Way};
 use n41_results::{CbCall, CbReply, Reply};
-use n41_said::Said;
-use n41_types::{Answer, Command, Fh, NoMemory, Place, Request};
+use n41_said::{Brought, Said};
+use n41_types::{Answer, Command, NoMemory, Place, Request};
 use n41_view::{Facts, PutOffs, Seat, Slot};
 use std::alloc::Global;
 use std::marker::Model;
@@ -85,6 +89,7 @@ fn new_seats(alloc: Global, callers: u32) -> Result<Vec<Seat>, NoMemory>
             command: None,
             number: 0,
             began_at: 0,
+            began_on: 0,
             busy: false,
             since: None,
             attempts: 0,
@@ -93,6 +98,7 @@ fn new_seats(alloc: Global, callers: u32) -> Result<Vec<Seat>, NoMemory>
                 at: Place::Root,
                 walked: 0,
                 old: None,
+                listed: None,
             },
         })?;
     }
@@ -142,13 +148,29 @@ impl Tables {
         self.seats.as_slice()
     }
 
-    /// A caller gave a command.
-    fn began(&mut self, caller: u32, number: u64, command: Command)
-        requires { self.old.facts.events + 1 < 2 ^ 64 }
-        ensures { self.new ≡ record self.old { facts = counted self.old.facts; seats = map (began_seat caller number command (suc self.old.facts.events)) self.old.seats } }
+    /// A caller gave a command, with the listing that it begins.
+    fn began(
+        &mut self,
+        caller: u32,
+        number: u64,
+        command: Command,
+        listed: Option<Listed>,
+        moment: u64,
+    )
+        requires events { self.old.facts.events + 1 < 2 ^ 64 }
+        requires listed { listed ≡ listed_of command }
+        ensures { self.new ≡ record self.old { facts = counted self.old.facts; seats = map (began_seat caller number command moment (suc self.old.facts.events)) self.old.seats } }
     {
         let place = self.facts.events + 1;
-        began_seats(caller, number, command, place, &mut self.seats);
+        began_seats(
+            caller,
+            number,
+            command,
+            listed,
+            moment,
+            place,
+            &mut self.seats,
+        );
         counted(&mut self.facts);
     }
 
@@ -165,10 +187,11 @@ impl Tables {
         put_request(moment, request, owner, &mut self.bare, &mut self.slots);
     }
 
-    /// A reply was taken, with the filehandle that it came to: what it says moves facts and seats, and then it ends what it answers.
-    fn took(&mut self, reply: Reply, reached: Option<Fh>)
+    /// A reply was taken, with what it brings: what it says moves facts and seats, and then it ends what it answers.
+    fn took(&mut self, reply: Reply, brought: Brought)
         requires events { self.old.facts.events + 1 < 2 ^ 64 }
-        requires reached { reached ≡ reached_in reply.body }
+        requires reached { brought.reached ≡ reached_in reply.body }
+        requires names { option_map (λ v. v.items) brought.names ≡ names_told (listing_in reply.body) }
         ensures { self.new ≡ record { facts = counted (took_facts (said self.old reply) reply self.old.facts); bare = took_bare reply self.old.bare; slots = slots_made (session_in (said self.old reply).bare) (map (took_slot self.old.facts.moment reply) self.old.slots); seats = map (took_seat self.old.facts.moment (said self.old reply) reply) self.old.seats } }
     {
         let moment = self.facts.moment;
@@ -176,7 +199,7 @@ impl Tables {
         let made = said.made();
         took_facts(&mut self.facts, &said, &reply);
         counted(&mut self.facts);
-        took_seats(moment, &said, &reply, reached, &mut self.seats);
+        took_seats(moment, &said, &reply, brought, &mut self.seats);
         took_slots(moment, &reply, &mut self.slots);
         slots_made(made, &mut self.slots);
         took_bare(&reply, &mut self.bare);
@@ -203,14 +226,16 @@ impl Tables {
         broke_slots(&mut self.slots);
     }
 
-    /// A command was answered.
-    fn answered(&mut self, caller: u32, answer: Answer)
+    /// A command of a caller was answered. The seat gives up the answer that its last reply gave, if there is one: it is moved out, so
+    /// that no answer is copied.
+    pub fn answered(&mut self, caller: u32) -> Option<Answer>
         requires { self.old.facts.events + 1 < 2 ^ 64 }
-        ensures { self.new ≡ record self.old { facts = counted self.old.facts; seats = map (answered_seat caller) self.old.seats } }
+        ensures earned { result ≡ earned_at (slice_get self.old.seats caller) }
+        ensures moved { (n : ℕ) (a : AnswerValue) → self.new ≡ step self.old (EventValue.Answered caller n a) }
     {
-        drop(answer);
-        answered_seats(caller, &mut self.seats);
+        let earned = answered_seats(caller, &mut self.seats);
         counted(&mut self.facts);
+        earned
     }
 
     /// A callback was taken.
@@ -265,23 +290,30 @@ impl Tables {
         requires { self.old.facts.events + 1 < 2 ^ 64 }
         ensures { self.new ≡ step self.old copy }
     {
-        let EventCopy { event, reached } = copy;
+        let EventCopy {
+            event,
+            brought,
+            listed,
+        } = copy;
         match event {
             Event::Began {
                 caller,
                 number,
                 command,
-                ..
-            } => self.began(caller, number, command),
+                moment,
+            } => self.began(caller, number, command, listed, moment),
             Event::Put { request, .. } => self.put(request),
-            Event::Took { reply, .. } => self.took(reply, reached),
+            Event::Took { reply, .. } => self.took(reply, brought),
             Event::CbTook { call, .. } => self.cb_took(call),
             Event::CbPut { reply, .. } => self.cb_put(reply),
             Event::Dialed { conn } => self.dialed(conn),
             Event::DialFailed => self.dial_failed(),
             Event::Broke { .. } => self.broke(),
             Event::Ticked { moment } => self.ticked(moment),
-            Event::Answered { caller, answer, .. } => self.answered(caller, answer),
+            Event::Answered { caller, answer, .. } => {
+                drop(answer);
+                drop(self.answered(caller));
+            }
             Event::Quit => self.quit(),
         }
     }

@@ -9,7 +9,7 @@ use Rattle.n41_types.specs.declared.plans.Request.{Request}
 use Rattle.n41_types.specs.Plans.{class_of}
 use Rattle.n41_journal.specs.declared.events.Event.{Event}
 use Rattle.n41_model.specs.Answers.{HasCause, UnknownCause, UnreachableCause, round_limit}
-use Rattle.n41_model.specs.Calls.{owner, is_caller}
+use Rattle.n41_model.specs.Calls.{call, given, owner, is_caller}
 use Rattle.n41_model.specs.Requests.{out, doubt, rounds}
 use Rattle.n41_model.specs.Sessions.{slots}
 use Rattle.n41_view.specs.View.{view, held_of, slots_from, seat_of, seats_from}
@@ -23,6 +23,11 @@ and_three true true true e = (refl, refl, refl)
 and_three true true false e = absurd (cc)
 and_three true false c e = absurd (cc)
 and_three false b c e = absurd (cc)
+
+and_both : (a b : Bool) → (a && b) ≡ true → (a ≡ true) × (b ≡ true)
+and_both true true e = (refl, refl)
+and_both true false e = absurd (cc)
+and_both false b e = absurd (cc)
 
 changing_is : (k : Class) → is_changing k ≡ true → k ≡ Changing
 changing_is Bare e = absurd (cc)
@@ -58,24 +63,35 @@ doubt_holds n js c s r d =
 
 -- ---- both ways
 
-unknown_to : (n : ℕ) (js : List Event) (c : ℕ) → round_limit ≤ rounds js → any_doubt c (slots_from n js 0 (slots js)) ≡ true → UnknownCause n js c
+-- a request of the caller's command is out, and a changing one of the caller is in doubt
+abbrev doubtful : ℕ → List Event → ℕ → Bool
+doubtful n js c = (call n js c).busy && any_doubt c (slots_from n js 0 (slots js))
+
+unknown_to : (n : ℕ) (js : List Event) (c : ℕ) → round_limit ≤ rounds js → doubtful n js c ≡ true → UnknownCause n js c
 unknown_to n js c e d =
-    let f = some_held (doubts c) n js 0 (slots js) d in
+    let a = and_both (call n js c).busy (any_doubt c (slots_from n js 0 (slots js))) d in
+    let f = some_held (doubts c) n js 0 (slots js) a.1 in
     let h = doubt_of n js c f.0 (out js f.0) refl f.1 in
-    record { slot = f.0; request = h.0; is_out = h.1.is_out; own = h.1.own; changing = h.1.changing; broke = h.1.broke; ended = e }
+    record { busy = a.0; slot = f.0; request = h.0; is_out = h.1.is_out; own = h.1.own; changing = h.1.changing; broke = h.1.broke; ended = e }
 
-unknown_from : (n : ℕ) (js : List Event) (c : ℕ) → Known js → UnknownCause n js c → any_doubt c (slots_from n js 0 (slots js)) ≡ true
+unknown_from : (n : ℕ) (js : List Event) (c : ℕ) → Known js → UnknownCause n js c → doubtful n js c ≡ true
 unknown_from n js c k h =
+    let a = h.busy in
     let d = doubt_holds n js c h.slot h.request (record { is_out = h.is_out; own = h.own; changing = h.changing; broke = h.broke }) in
-    any_below (doubts c) n js (slots js) h.slot d (k.below h.slot h.request h.is_out)
+    let b = any_below (doubts c) n js (slots js) h.slot d (k.below h.slot h.request h.is_out) in
+    rw (a, b) refl
 
-unreachable_to : (n : ℕ) (js : List Event) (c k : ℕ) → Known js → (k ≡ round_limit) × (round_limit ≤ rounds js) × (any_doubt c (slots_from n js 0 (slots js)) ≡ false) → UnreachableCause n js c k
+-- what the tables say where no server was reached
+abbrev Unreached : ℕ → List Event → ℕ → ℕ → Type 0
+Unreached n js c k = (k ≡ round_limit) × (round_limit ≤ rounds js) × (given n js c ≡ None) × (doubtful n js c ≡ false)
+
+unreachable_to : (n : ℕ) (js : List Event) (c k : ℕ) → Known js → Unreached n js c k → UnreachableCause n js c k
 unreachable_to n js c k v h =
-    record { count = h.0; ended = h.1; certain = λ a. (let b = unknown_from n js c v a in let d = h.2 in cc) }
+    record { count = h.0; ungiven = h.2; ended = h.1; certain = λ a. (let b = unknown_from n js c v a in let d = h.3 in cc) }
 
-unreachable_from : (n : ℕ) (js : List Event) (c k : ℕ) → UnreachableCause n js c k → (k ≡ round_limit) × (round_limit ≤ rounds js) × (any_doubt c (slots_from n js 0 (slots js)) ≡ false)
-unreachable_from n js c k h = (h.count, h.ended, at (any_doubt c (slots_from n js 0 (slots js))) refl) where
-  at : (b : Bool) → any_doubt c (slots_from n js 0 (slots js)) ≡ b → any_doubt c (slots_from n js 0 (slots js)) ≡ false
+unreachable_from : (n : ℕ) (js : List Event) (c k : ℕ) → UnreachableCause n js c k → Unreached n js c k
+unreachable_from n js c k h = (h.count, h.ended, h.ungiven, at (doubtful n js c) refl) where
+  at : (b : Bool) → doubtful n js c ≡ b → doubtful n js c ≡ false
   at true e = absurd (h.certain (unknown_to n js c h.ended e))
   at false e = e
 

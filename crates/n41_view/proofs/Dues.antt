@@ -16,11 +16,11 @@ use Rattle.n41_model.specs.Answers.{round_limit}
 use Rattle.n41_model.specs.Requests.{standing, moment, rounds, bares, bare, out, used, sent}
 use Rattle.n41_model.specs.Sessions.{session, slots, bound, phase, put_off, passed, free_slot, is_empty, next_xid}
 use Rattle.n41_model.specs.Calls.{plan_next, is_ready}
-use Rattle.n41_model.specs.Due.{due, item_due, only_if, with_plan, on_free, on_free_slot, bare_with, bare_due, goes_again, finishing, is_dead, is_running, is_session, step_plan, phase_plan, own_plan, destroy_plan, may_step, may_own, is_open, has_ended}
+use Rattle.n41_model.specs.Due.{due, item_due, only_if, with_plan, on_free, on_free_slot, bare_with, bare_due, goes_again, finishing, is_dead, is_running, is_session, step_plan, phase_plan, own_plan, destroy_plan, any_waits, may_step, may_own, is_open, has_ended}
 use Rattle.n41_model.proofs.Slots.{Seats}
 use Rattle.n41_view.specs.View.{view, facts_of, held_of, slots_from, seats_from}
 use Rattle.n41_view.specs.Step.{held_at}
-use Rattle.n41_view.specs.Due.{finishing_in, is_timely, plan_for, goes_held, goes_slot, begins_seat, on_slot, new_on, new_bare, may_step_in, may_own_in, due_item, due_in, xid_in, has_ended_in}
+use Rattle.n41_view.specs.Due.{finishing_in, any_waiting, is_timely, plan_for, goes_held, goes_slot, begins_seat, on_slot, new_on, new_bare, may_step_in, may_own_in, due_item, due_in, xid_in, has_ended_in}
 use Rattle.n41_view.specs.declared.tables.Held.{Held}
 use Rattle.n41_view.specs.declared.tables.Slot.{Slot}
 use Rattle.n41_view.proofs.Lists.{empty_is_none}
@@ -157,7 +157,8 @@ item_is u js (item.Fresh c) s k = fresh_is u js c s
 item_is u js item.Destroy s k =
     let a = finishing_is u.callers js in
     let e : is_none (bare js) ≡ is_empty (bares js) = sym (empty_is_none (bares js)) in
-    let b : (finishing_in (view u.callers js) && is_none (bare js)) ≡ (finishing u.callers js && is_empty (bares js)) = cc in
+    let d = waiting_is u.callers js in
+    let b : (finishing_in (view u.callers js) && is_none (bare js) && not (any_waiting (slots_from u.callers js 0 (slots js)))) ≡ (finishing u.callers js && is_empty (bares js) && not (any_waits js)) = cc in
     only_same b (with_same (destroy_plan js) (new_bare u (view u.callers js)) (bare_due u js) (λ p. new_bare_is u js p s))
 
 pub due_is : (u : Setup) (js : List Event) (i : Item) → Seats js → Known js → due_in u (view u.callers js) i ≡ due u js i

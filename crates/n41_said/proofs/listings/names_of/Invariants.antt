@@ -1,0 +1,6 @@
+use Rattle.std.proofs.Common.{◌≡◌, ◌++◌, drop}
+use Rattle.n41_model.specs.Calls.{names_of}
+use Rattle.n41_said.proofs.listings.names_of.Given as goal
+
+abbrev pub invariant-loop-entry : goal.invariant-loop-entry
+invariant-loop-entry l = names_of l.entries ≡ l.names.items ++ names_of (drop l.entry-index l.entries)

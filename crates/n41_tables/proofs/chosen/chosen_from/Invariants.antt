@@ -1,6 +1,0 @@
-use Rattle.std.proofs.Common.{◌≡◌, drop, option_copied}
-use Rattle.n41_view.specs.Step.{chosen_from}
-use Rattle.n41_tables.proofs.chosen.chosen_from.Given as goal
-
-abbrev pub invariant-loop-seat : goal.invariant-loop-seat
-invariant-loop-seat l = chosen_from l.moment l.most l.plan (option_copied l.initial.best) l.seats ≡ chosen_from l.moment l.most l.plan (option_copied l.best) (drop l.seat-index l.seats)

@@ -1,0 +1,8 @@
+-- The answer that a caller's last reply gave.
+use Rattle.std.specs.Prelude.{Option, Some, None}
+use Rattle.n41_types.specs.declared.commands.Answer.{Answer}
+use Rattle.n41_view.specs.declared.tables.Seat.{Seat}
+
+abbrev pub earned_at : Option Seat → Option Answer
+earned_at None = None
+earned_at (Some s) = s.earned
