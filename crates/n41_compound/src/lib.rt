@@ -15,7 +15,7 @@ mod walks;
 pub use laws::{calls_are_of_one_request, what_is_spelled_is_seen};
 pub use n41_fits::fits;
 pub use n41_replies::{MsgFault, read_reply, spell_reply};
-pub use n41_requests::spell;
+pub use n41_spell::spell;
 pub use n41_seen::{CallSeen, SeenTail, read_request};
 pub use requests::request_of;
 

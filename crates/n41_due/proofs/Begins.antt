@@ -1,15 +1,18 @@
 -- Whether a command has a next plan, and what is due then.
-use Rattle.std.proofs.Common.{◌≡◌, ℕ, ◌<◌, ◌≤◌, Bool, true, false, ◌&&◌, not, List, [], ◌∷◌, Option, Some, None, take, length, slice_get, refl, ◌∙◌, ap, subst, arith}
+use Rattle.std.proofs.Common.{◌≡◌, ℕ, ◌<◌, ◌≤◌, Bool, true, false, ◌&&◌, not, List, [], ◌∷◌, Option, Some, None, take, length, slice_get, refl, sym, ◌∙◌, ap, subst, arith}
 use Rattle.std.specs.Prelude.{is_some}
 use Rattle.n41_types.specs.declared.commands.Command.{Command}
+use Rattle.n41_types.specs.declared.commands.Command.TheVariants as asks
 use Rattle.n41_types.specs.declared.plans.Place.{Place}
 use Rattle.n41_types.specs.declared.plans.Plan.{Plan}
 use Rattle.n41_types.specs.declared.plans.Plan.TheVariants as plan
 use Rattle.n41_types.specs.declared.plans.Request.{Request}
+use Rattle.n41_results.specs.declared.sessions.SessionMade.{SessionMade}
 use Rattle.n41_model.specs.declared.words.Item.TheVariants.{Fresh}
+use Rattle.n41_model.specs.declared.words.Listed.{Listed}
 use Rattle.n41_model.specs.declared.words.Setup.{Setup}
 use Rattle.n41_model.specs.declared.words.Way.{Way}
-use Rattle.n41_model.specs.Calls.{ahead, goal, make_dir, next_plan, remove, rename, walk_most, walk_or}
+use Rattle.n41_model.specs.Calls.{ahead, goal, list, list_size, make_dir, next_plan, remove, rename, walk_most, walk_or}
 use Rattle.n41_model.specs.Due.{only_if, with_plan, is_running}
 use Rattle.n41_view.specs.declared.tables.Seat.{Seat}
 use Rattle.n41_view.specs.Due.{finishing_in, is_ready_seat, begins_seat, new_on, due_item}
@@ -19,6 +22,10 @@ use Rattle.n41_due.specs.Order.{can_begin, began_of}
 use Rattle.n41_due.proofs.First.{none_is}
 
 -- ---- by the parts of what is asked for
+
+pub has_listed : (size : ℕ) (at : Place) (o : Option Listed) → is_some (list size at o) ≡ is_some o
+has_listed size at None = refl
+has_listed size at (Some l) = refl
 
 pub has_made : (at : Place) (o : Option (List ℕ)) → is_some (make_dir at o) ≡ is_some o
 has_made at None = refl
@@ -38,22 +45,31 @@ walks : (most : ℕ) (at : Place) (ns : List (List ℕ)) (p : Option Plan) → 1
 walks most at [] p l = absurd (omega (arith, l))
 walks most at (n ∷ ns) p l = refl
 
-pub walk_next : (most : ℕ) (k : Command) (w : Way) (ns names : List (List ℕ)) (at : Place) → ns ≡ ahead k w → 1 ≤ length ns → at ≡ w.at → names ≡ take most ns → Some (plan.Walk at names) ≡ next_plan most (Some k) w
-walk_next most k w ns names at e l f g =
+pub walk_next : (m : Option SessionMade) (k : Command) (w : Way) (ns names : List (List ℕ)) (at : Place) → ns ≡ ahead k w → 1 ≤ length ns → at ≡ w.at → names ≡ take (walk_most m) ns → Some (plan.Walk at names) ≡ next_plan m (Some k) w
+walk_next m k w ns names at e l f g =
     ap (λ (xs : List (List ℕ)). Some (plan.Walk at xs)) g
-    ∙ ap (λ (a : Place). Some (plan.Walk a (take most ns))) f
-    ∙ ap (λ (xs : List (List ℕ)). Some (plan.Walk w.at (take most xs))) e
-    ∙ walks most w.at (ahead k w) (goal k w) (subst (λ (xs : List (List ℕ)). 1 ≤ length xs) e l)
+    ∙ ap (λ (a : Place). Some (plan.Walk a (take (walk_most m) ns))) f
+    ∙ ap (λ (xs : List (List ℕ)). Some (plan.Walk w.at (take (walk_most m) xs))) e
+    ∙ walks (walk_most m) w.at (ahead k w) (goal (list_size m) k w) (subst (λ (xs : List (List ℕ)). 1 ≤ length xs) e l)
 
--- ---- it does not hang on how many names go into a walk
+-- ---- it does not hang on the session's sizes
 
-any_walk : (m n : ℕ) (at : Place) (ns : List (List ℕ)) (p : Option Plan) → is_some (walk_or m at ns p) ≡ is_some (walk_or n at ns p)
-any_walk m n at [] p = refl
-any_walk m n at (x ∷ xs) p = refl
+any_goal : (a b : ℕ) (k : Command) (w : Way) → is_some (goal a k w) ≡ is_some (goal b k w)
+any_goal a b (asks.Stat p) w = refl
+any_goal a b (asks.List p) w = has_listed a w.at w.listed ∙ sym (has_listed b w.at w.listed)
+any_goal a b (asks.MakeDir p) w = refl
+any_goal a b (asks.Remove p) w = refl
+any_goal a b (asks.Rename p q) w = refl
+any_goal a b k w = refl
 
-any_next : (m n : ℕ) (o : Option Command) (w : Way) → is_some (next_plan m o w) ≡ is_some (next_plan n o w)
+any_walk : (m n : ℕ) (at : Place) (ns : List (List ℕ)) (p q : Option Plan) → is_some p ≡ is_some q → is_some (walk_or m at ns p) ≡ is_some (walk_or n at ns q)
+any_walk m n at [] p q e = e
+any_walk m n at (x ∷ xs) p q e = refl
+
+any_next : (m n : Option SessionMade) (o : Option Command) (w : Way) → is_some (next_plan m o w) ≡ is_some (next_plan n o w)
 any_next m n None w = refl
-any_next m n (Some k) w = any_walk m n w.at (ahead k w) (goal k w)
+any_next m n (Some k) w =
+    any_walk (walk_most m) (walk_most n) w.at (ahead k w) (goal (list_size m) k w) (goal (list_size n) k w) (any_goal (list_size m) (list_size n) k w)
 
 -- ---- what is due then
 
@@ -68,8 +84,8 @@ with_room f (Some p) h = h p
 begins : (u : Setup) (w : View) (o : Option Seat) → ((p : Plan) → is_some (new_on u w p) ≡ true) → is_some (begins_seat u w o) ≡ can_begin w.facts.moment o
 begins u w None h = refl
 begins u w (Some s) h =
-    and_both (is_ready_seat w.facts.moment s) (with_plan (seat_plan (walk_most w.facts.session) s) (new_on u w))
-    ∙ ap (λ (b : Bool). is_ready_seat w.facts.moment s && b) (with_room (new_on u w) (seat_plan (walk_most w.facts.session) s) h ∙ any_next (walk_most w.facts.session) 1 s.command s.way)
+    and_both (is_ready_seat w.facts.moment s) (with_plan (seat_plan w.facts.session s) (new_on u w))
+    ∙ ap (λ (b : Bool). is_ready_seat w.facts.moment s && b) (with_room (new_on u w) (seat_plan w.facts.session s) h ∙ any_next w.facts.session None s.command s.way)
 
 -- where new requests can go, a caller's is due exactly where its command can begin
 pub fresh_is : (u : Setup) (w : View) (c : ℕ) → finishing_in w ≡ false → is_running w.facts.phase ≡ true → ((p : Plan) → is_some (new_on u w p) ≡ true) → is_some (due_item u w (Fresh c)) ≡ can_begin w.facts.moment (slice_get w.seats c)
@@ -90,8 +106,8 @@ and_false false b e = refl
 unroomed : (u : Setup) (w : View) (o : Option Seat) → ((p : Plan) → is_some (new_on u w p) ≡ false) → is_some (begins_seat u w o) ≡ false
 unroomed u w None h = refl
 unroomed u w (Some s) h =
-    and_both (is_ready_seat w.facts.moment s) (with_plan (seat_plan (walk_most w.facts.session) s) (new_on u w))
-    ∙ and_false (is_ready_seat w.facts.moment s) (is_some (with_plan (seat_plan (walk_most w.facts.session) s) (new_on u w))) (no_plan (new_on u w) (seat_plan (walk_most w.facts.session) s) h)
+    and_both (is_ready_seat w.facts.moment s) (with_plan (seat_plan w.facts.session s) (new_on u w))
+    ∙ and_false (is_ready_seat w.facts.moment s) (is_some (with_plan (seat_plan w.facts.session s) (new_on u w))) (no_plan (new_on u w) (seat_plan w.facts.session s) h)
 
 -- where no new request can go, none is due
 pub no_room : (u : Setup) (w : View) (c : ℕ) → ((p : Plan) → is_some (new_on u w p) ≡ false) → due_item u w (Fresh c) ≡ None

@@ -1,7 +1,6 @@
 pub mod Outs
 pub mod First
 pub mod Ready
-pub mod OneWant
 pub mod Placed
 pub mod Old
 pub mod Next

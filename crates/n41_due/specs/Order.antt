@@ -9,9 +9,9 @@ use Rattle.n41_view.specs.Due.{is_ready_seat, due_in}
 use Rattle.n41_view.specs.Step.{seat_plan}
 use Rattle.n41_view.specs.declared.tables.Seat.{Seat}
 
--- The command has a next plan: that does not hang on how many names go into a walk.
+-- The command has a next plan: that does not hang on the session's sizes.
 abbrev pub has_next : Seat → Bool
-has_next s = is_some (seat_plan 1 s)
+has_next s = is_some (seat_plan None s)
 
 -- the command can go on, and has a next plan
 abbrev pub can_begin : ℕ → Option Seat → Bool

@@ -1,20 +1,18 @@
-ghost use Rattle.std.specs.Prelude.{◌≡◌, ◌<◌, ◌≤◌, None, position, IfSome, IfNone};
+ghost use Rattle.std.specs.Prelude.{◌≡◌, ◌<◌, ◌≤◌, None, IfSome, IfNone};
 ghost use Rattle.n41_view.specs.Due.{has_ended_in, is_over_in};
-ghost use Rattle.n41_view.specs.Causes.{CauseIn, any_doubt};
+ghost use Rattle.n41_view.specs.Causes.{CauseIn, any_doubt, given_in};
 ghost use Rattle.n41_model.specs.Answers.{round_limit};
 ghost use Rattle.n41_model.specs.Due.{is_dead};
-ghost use Rattle.n41_due.specs.Answers.{has_earned, is_unanswered};
 
 use crate::lookup::Lookup;
 use crate::plans::has_destroy_plan;
-use crate::seats::{first_earned, first_unanswered};
 use crate::slots::any_doubt;
 use n41_model::Phase;
 use n41_types::Answer;
 use n41_view::Seat;
 
 /// So many rounds in a row without a reply end a run.
-const ROUND_LIMIT: u64 = 16;
+pub(crate) const ROUND_LIMIT: u64 = 16;
 
 impl Lookup<'_> {
     /// Whether nothing is left to be put once all is answered.
@@ -39,37 +37,11 @@ impl Lookup<'_> {
         self.is_finishing() && self.is_over()
     }
 
-    /// The first caller whose unanswered command has earned its answer. None exactly where there is none.
-    pub fn earned(&self) -> Option<u32>
-        ensures { result ≡ position has_earned self.now.seats }
-    {
-        match first_earned(self.seats) {
-            None => None,
-            Some(caller) => Some(caller as u32),
-        }
-    }
-
-    /// The first caller whose command is unanswered. None exactly where there is none.
-    pub fn unanswered(&self) -> Option<u32>
-        ensures { result ≡ position is_unanswered self.now.seats }
-    {
-        match first_unanswered(self.seats) {
-            None => None,
-            Some(caller) => Some(caller as u32),
-        }
-    }
-
-    /// Whether a changing request of the caller is in doubt: a connection broke while it was unanswered.
-    pub fn is_doubtful(&self, caller: u32) -> bool
-        ensures { result ≡ any_doubt caller self.now.slots }
-    {
-        any_doubt(self.slots, caller)
-    }
-
-    /// The answer to an unanswered command where no reply is waited for any more: that a reply broke the rules; or once sixteen rounds
-    /// in a row had no reply, unknown where a changing request of the command is in doubt, and otherwise that the server could not be
-    /// reached. None exactly where no reply broke the rules and fewer rounds had none.
+    /// The answer to an unanswered command that has none yet where no reply is waited for any more: that a reply broke the rules; or
+    /// once sixteen rounds in a row had no reply, unknown where a changing request of the command is in doubt, and otherwise that the
+    /// server could not be reached. None exactly where no reply broke the rules and fewer rounds had none.
     pub fn answer_at_end(&self, seat: &Seat) -> Option<Answer>
+        requires { given_in self.now.facts.moment seat.now ≡ None }
         ensures some { IfSome result (λ a. CauseIn self.now seat.now a) }
         ensures none { IfNone result ((self.now.facts.breach_at ≡ None) × (self.now.facts.rounds < round_limit)) }
     {
@@ -79,7 +51,7 @@ impl Lookup<'_> {
         if self.facts.rounds < ROUND_LIMIT {
             return None;
         }
-        if any_doubt(self.slots, seat.caller) {
+        if seat.busy && any_doubt(self.slots, seat.caller) {
             Some(Answer::Unknown)
         } else {
             Some(Answer::Unreachable(ROUND_LIMIT))

@@ -1,4 +1,4 @@
-ghost use Rattle.std.specs.Prelude.{◌≡◌, ◌&&◌, ◌<◌, ◌≤◌, ℕ, true, false, None, not, is_some, option_copied, IfOk, IfSome, IfNone, IsSome, slice_get};
+ghost use Rattle.std.specs.Prelude.{◌≡◌, ◌&&◌, ◌<◌, ◌≤◌, ℕ, true, false, None, not, is_none, is_some, option_copied, IfOk, IfSome, IfNone, IsSome, slice_get};
 ghost use Rattle.n41_types.specs.declared.plans.Plan.{Plan as PlanValue};
 ghost use Rattle.n41_model.specs.declared.words.Item.{Item as ItemValue};
 ghost use Rattle.n41_model.specs.declared.words.Setup.{Setup as SetupValue};
@@ -6,6 +6,7 @@ ghost use Rattle.n41_model.specs.Due.{is_session};
 ghost use Rattle.n41_view.specs.Due.{any_waiting, finishing_in, is_open_in, is_timely, may_step_in, may_own_in, new_on, due_item, due_in};
 ghost use Rattle.n41_due.specs.Order.{began_of, goes_before};
 
+use crate::answers::ROUND_LIMIT;
 use crate::lookup::Lookup;
 use crate::plans::{has_destroy_plan, has_phase_plan, put_off};
 use crate::seats::{all_idle, first_ready};
@@ -20,11 +21,13 @@ impl Lookup<'_> {
         self.facts.quit && all_idle(self.seats)
     }
 
-    /// Whether a connection stands that carries requests.
+    /// Whether a connection stands that carries requests: none does where the run has ended for good.
     pub(crate) fn is_open(&self) -> bool
         ensures { result ≡ is_open_in self.now.facts }
     {
-        self.facts.standing.is_some() && !matches!(self.facts.phase, Phase::Dead)
+        self.facts.standing.is_some()
+            && !matches!(self.facts.phase, Phase::Dead)
+            && self.facts.rounds < ROUND_LIMIT
     }
 
     fn is_timely(&self) -> bool
@@ -54,6 +57,13 @@ impl Lookup<'_> {
         ensures { result ≡ may_own_in self.now }
     {
         !self.is_finishing() && self.is_timely() && !any_owned(self.slots)
+    }
+
+    /// Whether the session and the client id may be given up: no reply is awaited any more.
+    pub(crate) fn may_destroy(&self) -> bool
+        ensures { result ≡ (finishing_in self.now && is_none self.now.bare && not (any_waiting self.now.slots)) }
+    {
+        self.is_finishing() && self.bare.is_none() && !any_waiting(self.slots)
     }
 
     /// Whether a new request can go on a slot.
@@ -118,13 +128,10 @@ impl Lookup<'_> {
     fn is_destroy_due(&self) -> bool
         ensures { (u : SetupValue) → is_some (due_item u self.now Item.Destroy) ≡ result }
     {
-        if !self.is_finishing() || self.bare.is_some() {
+        if !self.may_destroy() {
             return false;
         }
-        if !has_destroy_plan(self.facts) {
-            return false;
-        }
-        self.next_xid().is_some()
+        has_destroy_plan(self.facts) && self.next_xid().is_some()
     }
 
     fn first_item(&self) -> Option<Item>

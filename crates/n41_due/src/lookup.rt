@@ -44,4 +44,29 @@ impl<'a> Lookup<'a> {
             seats,
         }
     }
+
+    pub fn facts(&self) -> &'a Facts
+        ensures { result.now ≡ self.now.facts }
+    {
+        self.facts
+    }
+
+    /// The request without a slot that is out.
+    pub fn bare(&self) -> Option<&'a Request>
+        ensures { option_copied result ≡ self.now.bare }
+    {
+        self.bare
+    }
+
+    pub fn slots(&self) -> &'a [Slot]
+        ensures { result.now ≡ self.now.slots }
+    {
+        self.slots
+    }
+
+    pub fn seats(&self) -> &'a [Seat]
+        ensures { result.now ≡ self.now.seats }
+    {
+        self.seats
+    }
 }

@@ -14,7 +14,6 @@ use crate::slots::{again, any_old, first_free, first_old, held_with, highest};
 use crate::walks::next_plan;
 use crate::xids::is_named;
 use n41_model::{Item, Phase, Sent, Setup};
-use n41_said::walk_most;
 use n41_types::{NoMemory, Plan, Request, SlotUse};
 use n41_view::Seat;
 use std::alloc::Global;
@@ -147,11 +146,12 @@ impl Lookup<'_> {
         if !is_ready(self.facts.moment, seat) {
             return Ok(None);
         }
-        let most = walk_most(self.facts.session);
-        Ok(match next_plan(alloc, most, &seat.command, &seat.way)? {
-            None => None,
-            Some(plan) => self.new_on(setup, plan),
-        })
+        Ok(
+            match next_plan(alloc, self.facts.session, &seat.command, &seat.way)? {
+                None => None,
+                Some(plan) => self.new_on(setup, plan),
+            },
+        )
     }
 
     fn fresh_request(
@@ -174,7 +174,7 @@ impl Lookup<'_> {
     fn destroy_request(&self, setup: &Setup) -> Option<Request>
         ensures { result ≡ due_item setup.now self.now Item.Destroy }
     {
-        if !self.is_finishing() || self.bare.is_some() {
+        if !self.may_destroy() {
             return None;
         }
         match destroy_plan(self.facts.session, self.facts.client) {

@@ -1,9 +1,8 @@
-ghost use Rattle.std.specs.Prelude.{◌≡◌, ◌<◌, ◌≤◌, ◌&&◌, if◌then◌else◌, Some, ℕ, true, false, length, position, slice_get, IfSome, IfNone};
+ghost use Rattle.std.specs.Prelude.{◌≡◌, ◌<◌, ◌≤◌, ◌&&◌, if◌then◌else◌, Some, ℕ, true, false, length, slice_get, IfSome, IfNone};
 ghost use Rattle.n41_model.specs.Calls.{is_ready_call};
 ghost use Rattle.n41_view.specs.Due.{all_idle, is_ready_seat};
 ghost use Rattle.n41_view.specs.Step.{call_of};
 ghost use Rattle.n41_due.specs.Order.{can_begin, began_of, is_sooner};
-ghost use Rattle.n41_due.specs.Answers.{has_earned, is_unanswered};
 
 use crate::slots::has_passed;
 use crate::walks::has_next;
@@ -78,24 +77,4 @@ pub fn first_ready(seats: &[Seat], moment: u64) -> Option<usize>
         best = better(seats, moment, best, i, seat);
     }
     best
-}
-
-fn has_earned(seat: &Seat) -> bool
-    ensures { result ≡ has_earned seat.now }
-{
-    seat.command.is_some() && seat.earned.is_some()
-}
-
-/// The first caller whose command has its answer.
-pub fn first_earned(seats: &[Seat]) -> Option<usize>
-    ensures { result ≡ position has_earned seats.now }
-{
-    seats.iter().position(|seat| has_earned(seat))
-}
-
-/// The first caller whose command is unanswered.
-pub fn first_unanswered(seats: &[Seat]) -> Option<usize>
-    ensures { result ≡ position is_unanswered seats.now }
-{
-    seats.iter().position(|seat| seat.command.is_some())
 }

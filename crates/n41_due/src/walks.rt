@@ -1,10 +1,12 @@
-// The next plan of a command that walks.
-ghost use Rattle.std.specs.Prelude.{◌≡◌, Some, IfOk, take, is_some, option_copied};
-ghost use Rattle.n41_model.specs.Calls.{goal, last_of, make_dir, next_plan, remove, rename, walk_or};
+//! The next plan of a command that walks.
+
+ghost use Rattle.std.specs.Prelude.{◌≡◌, ℕ, Some, IfOk, take, is_some, option_copied};
+ghost use Rattle.n41_model.specs.Calls.{goal, last_of, list, make_dir, next_plan, remove, rename, walk_most, walk_or};
 ghost use Rattle.n41_due.specs.Order.{has_next};
 
-use n41_model::Way;
-use n41_said::{ahead, last_of};
+use n41_model::{Listed, Way};
+use n41_results::SessionMade;
+use n41_said::{ahead, last_of, list_size, walk_most};
 use n41_types::{Command, Name, NoMemory, Path, Place, Plan, Sequence};
 use n41_view::Seat;
 use std::alloc::Global;
@@ -53,14 +55,30 @@ fn rename(
     })
 }
 
-/// What a command asks for at the end of its walk.
-fn goal(command: &Command, way: &Way) -> Result<Option<Plan>, NoMemory>
-    ensures { IfOk result (λ o. o ≡ goal command.now way.now) }
+/// A listing goes on where it has come to.
+fn list(size: u32, at: &Place, listed: &Option<Listed>) -> Result<Option<Plan>, NoMemory>
+    ensures { IfOk result (λ o. o ≡ list size at.now listed.now) }
+{
+    Ok(match listed {
+        None => None,
+        Some(listed) => Some(Plan::List {
+            at: at.clone()?,
+            cookie: listed.cookie,
+            verf: listed.verifier,
+            max: size,
+        }),
+    })
+}
+
+/// What a command asks for at the end of its walk; so many bytes are asked of a directory at once.
+fn goal(size: u32, command: &Command, way: &Way) -> Result<Option<Plan>, NoMemory>
+    ensures { IfOk result (λ o. o ≡ goal size command.now way.now) }
 {
     match command {
         Command::Stat { .. } => Ok(Some(Plan::Stat {
             at: way.at.clone()?,
         })),
+        Command::List { .. } => list(size, &way.at, &way.listed),
         Command::MakeDir { path } => make_dir(&way.at, last_of(path.as_slice())),
         Command::Remove { path } => remove(&way.at, last_of(path.as_slice())),
         Command::Rename { from, to } => rename(
@@ -81,24 +99,24 @@ fn first_names(alloc: Global, most: usize, names: &[Name]) -> Result<Path, NoMem
     Sequence::from_vec(alloc, first.to_vec(alloc)?)
 }
 
-/// The next plan of a command that has come so far, with so many names in a walk.
+/// The next plan of a command that has come so far, as this session's sizes allow.
 #[tactic(auto, using(crate::proofs::Begins::walk_next))]
 pub fn next_plan(
     alloc: Global,
-    most: u64,
+    session: Option<SessionMade>,
     command: &Option<Command>,
     way: &Way,
 ) -> Result<Option<Plan>, NoMemory>
-    ensures { IfOk result (λ o. o ≡ next_plan most command.now way.now) }
+    ensures { IfOk result (λ o. o ≡ next_plan session command.now way.now) }
 {
     let Some(command) = command else {
         return Ok(None);
     };
     match ahead(command, way) {
-        [] => goal(command, way),
+        [] => goal(list_size(session), command, way),
         names => Ok(Some(Plan::Walk {
             from: way.at.clone()?,
-            names: first_names(alloc, most as usize, names)?,
+            names: first_names(alloc, walk_most(session) as usize, names)?,
         })),
     }
 }
@@ -111,12 +129,13 @@ fn has_last(path: &[Name]) -> bool
 }
 
 /// Whether a command that has come so far asks for anything at the end of its walk.
-#[tactic(auto, using(crate::proofs::Begins::has_made, crate::proofs::Begins::has_removed, crate::proofs::Begins::has_renamed))]
+#[tactic(auto, using(crate::proofs::Begins::has_listed, crate::proofs::Begins::has_made, crate::proofs::Begins::has_removed, crate::proofs::Begins::has_renamed))]
 fn has_goal(command: &Command, way: &Way) -> bool
-    ensures { result ≡ is_some (goal command.now way.now) }
+    ensures { (size : ℕ) → is_some (goal size command.now way.now) ≡ result }
 {
     match command {
         Command::Stat { .. } => true,
+        Command::List { .. } => way.listed.is_some(),
         Command::MakeDir { path } => has_last(path.as_slice()),
         Command::Remove { path } => has_last(path.as_slice()),
         Command::Rename { from, to } => {

@@ -3,7 +3,7 @@ ghost use Rattle.std.specs.Prelude.{◌≡◌, ◌≤◌, length, IfOk};
 ghost use Rattle.n41_probe.specs.Probes.{probe_request, request};
 ghost use Rattle.n41_requests.specs.Requests.{IsSmall, IsSpellable};
 
-use n41_requests::spell;
+use n41_spell::spell;
 use n41_types::{Bytes, NoMemory, Plan, Request};
 use std::alloc::Global;
 

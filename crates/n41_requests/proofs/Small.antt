@@ -20,7 +20,7 @@ use Rattle.n41_rpc.specs.Heads.{head, spoken, called, cred, system, system_of, w
 use Rattle.n41_args.specs.declared.arg.Arg.{Arg}
 use Rattle.n41_args.specs.declared.arg.Arg.TheVariants as arg
 use Rattle.n41_args.specs.Args.{told_arg, written_arg}
-use Rattle.n41_args.specs.Directories.{directory_type, rename, told_create}
+use Rattle.n41_args.specs.Directories.{directory_type, read_dir, rename, told_create}
 use Rattle.n41_requests.specs.Plans.{args_of, behind, put, request_args, stat_mask, with_mode}
 use Rattle.n41_requests.specs.Requests.{call_head, args_text, body_text, spelled, AllFit, Fits, HasNames, IsSmall}
 use Rattle.n41_requests.proofs.Lengths.{word_length, hyper_length, system_length}
@@ -103,6 +103,14 @@ look_short = simp (length-append, word_length) (omega arith)
 stat_short : (at : Place) → AllFit (args_of (plan.Stat at)) → length (args_text (args_of (plan.Stat at))) ≤ 2400
 stat_short at fits = omega (arith, behind_put at (arg.GetAttr stat_mask ∷ []) 100 fits.0 look_short)
 
+listed_short : (cookie : ℕ) (v : List ℕ) (max : ℕ) → AllFit (arg.ReadDir (record { cookie = cookie; verifier = v; dircount = max; maxcount = max; mask = [] }) ∷ []) → length (args_text (arg.ReadDir (record { cookie = cookie; verifier = v; dircount = max; maxcount = max; mask = [] }) ∷ [])) ≤ 100
+unfolding told_arg read_dir verifier bitmap bitmaps.bitmap
+listed_short cookie v max fits = simp (length-append, word_length, hyper_length) (omega (arith, fixed_length v, fits.0.1.1.0))
+
+list_short : (at : Place) (cookie : ℕ) (v : List ℕ) (max : ℕ) → AllFit (args_of (plan.List at cookie v max)) → length (args_text (args_of (plan.List at cookie v max))) ≤ 2400
+list_short at cookie v max fits =
+    omega (arith, behind_put at (arg.ReadDir (record { cookie = cookie; verifier = v; dircount = max; maxcount = max; mask = [] }) ∷ []) 100 fits.0 (listed_short cookie v max fits.1))
+
 made_short : (name : List ℕ) → IsName name → length (args_text (arg.Create (record { name = name; attrs = with_mode 493 }) ∷ [])) ≤ 400
 unfolding told_arg told_create directory_type string fattr told behind_mask values bitmap bitmaps.bitmap
 made_short name is = simp (length-append, word_length) (omega (arith, opaque_length name, opaque_length (spelling.word 493), word_length 493, is.1))
@@ -143,7 +151,7 @@ plan_short (plan.Walk f n) small are fits = walk_short f n small are fits
 plan_short (plan.Stat at) small are fits = stat_short at fits
 plan_short plan.LeaseTime small are fits = lease_short
 plan_short (plan.Read f s o n) small are fits = absurd small
-plan_short (plan.List a c v m) small are fits = absurd small
+plan_short (plan.List a c v m) small are fits = list_short a c v m fits
 plan_short (plan.TestLock f k s o) small are fits = absurd small
 plan_short (plan.Test s) small are fits = absurd small
 plan_short plan.Renew small are fits = omega arith

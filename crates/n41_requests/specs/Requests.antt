@@ -73,6 +73,7 @@ IsSmall plan.LeaseTime = Unit {0}
 IsSmall plan.Renew = Unit {0}
 IsSmall (plan.Walk from names) = length names ≤ 8
 IsSmall (plan.Stat _) = Unit {0}
+IsSmall (plan.List _ _ _ _) = Unit {0}
 IsSmall (plan.MakeDir _ _) = Unit {0}
 IsSmall (plan.Remove _ _) = Unit {0}
 IsSmall (plan.Rename _ _ _ _) = Unit {0}

@@ -17,8 +17,8 @@ pub fn what_is_spelled_is_asked()
     ensures lease { (n : ℕ) → has lease_mask n ≡ list_any (λ m. m == n) (asked_attrs plan.LeaseTime) }
 {}
 
-/// A law: the requests by which a session is made, kept and ended, walks of at most eight names, looks, and the making of directories,
-/// removing and renaming have at most 4,000 bytes.
+/// A law: the requests by which a session is made, kept and ended, walks of at most eight names, looks, listings, and the making of
+/// directories, removing and renaming have at most 4,000 bytes.
 pub fn small_requests()
     ensures { (q : Request) → IsSmall q.plan → HasNames q.plan → Fits q → length (spelled q) ≤ 4000 }
 {}

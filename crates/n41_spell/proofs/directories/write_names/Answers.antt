@@ -1,7 +1,7 @@
 use Rattle.std.proofs.Common.{length, refl}
 use Rattle.std.proofs.lemmas.Option.{slice_get_read}
 use Rattle.n41_requests.proofs.Lists.{each_name_fits}
-use Rattle.n41_requests.proofs.directories.write_names.Goals as goal
+use Rattle.n41_spell.proofs.directories.write_names.Goals as goal
 
 pub write_name-requires : goal.write_name-requires
 write_name-requires c =

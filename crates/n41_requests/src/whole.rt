@@ -1,7 +1,7 @@
-ghost use Rattle.std.specs.Prelude.{◌≡◌, ◌++◌, ◌≤◌, IfOk, OnOk, length};
-ghost use Rattle.n41_rpc.specs.Heads.{head, system, system_of, written_call};
+//! That every request that is spellable fits in its spelling.
+
 ghost use Rattle.n41_requests.specs.Plans.{args_of, request_args};
-ghost use Rattle.n41_requests.specs.Requests.{call_head, spelled, AllFit, Fits, IsSmall, IsSpellable, IsSpellablePlan};
+ghost use Rattle.n41_requests.specs.Requests.{AllFit, Fits, IsSpellable, IsSpellablePlan};
 
 use crate::fitting::{
     bind_fits, close_fits, complete_fits, create_file_fits, create_session_fits,
@@ -10,23 +10,8 @@ use crate::fitting::{
     rename_fits, resize_fits, return_fits, stat_fits, test_fits, test_lock_fits, unlock_fits,
     walk_fits, write_fits,
 };
-use crate::names::request_has_names;
 use crate::parts::slot_fits;
-use crate::writing::write_body;
-use n41_rpc::{CallHead, Cred, write_call, write_system_body};
-use n41_types::{Bytes, NoMemory, Plan, Request};
-use n41_xdr::Writer;
-use std::alloc::Global;
-
-/// NFS (RFC 5531, section 13; RFC 8881, section 16).
-const PROGRAM: u32 = 100003;
-
-const VERSION: u32 = 4;
-
-const COMPOUND: u32 = 1;
-
-/// AUTH_SYS (RFC 5531, section 8.2).
-const AUTH_SYS: u32 = 1;
+use n41_types::{Plan, Request};
 
 /// The operations of a plan fit in their spellings.
 fn plan_fits(plan: &Plan)
@@ -122,55 +107,4 @@ pub fn request_fits(q: &Request)
     let _uid = q.uid;
     let _gid = q.gid;
     let _minor = q.minor;
-}
-
-/// The body of AUTH_SYS.
-fn system_body(alloc: Global, uid: u32, gid: u32) -> Result<Bytes, NoMemory>
-    ensures { IfOk result (λ body. body ≡ system.spell (system_of uid gid)) }
-{
-    let mut w = Writer::new(alloc);
-    write_system_body(&mut w, uid, gid)?;
-    Ok(Bytes::from_vec(w.into_bytes())?)
-}
-
-#[tactic(auto, unfolding(n41_rpc::specs::Heads::cred), using(crate::proofs::Lengths::system_length))]
-fn write_head(alloc: Global, w: &mut Writer, q: &Request) -> Result<(), NoMemory>
-    ensures { OnOk result (w.new ≡ w.old ++ head.spell (written_call (call_head q.now))) }
-{
-    let call = CallHead {
-        xid: q.xid,
-        prog: PROGRAM,
-        vers: VERSION,
-        procedure: COMPOUND,
-        cred: Cred {
-            flavor: AUTH_SYS,
-            body: system_body(alloc, q.uid, q.gid)?,
-        },
-    };
-    write_call(w, &call)
-}
-
-#[tactic(auto, unfolding(crate::specs::Requests::spelled))]
-fn spell_whole(alloc: Global, q: &Request) -> Result<Bytes, NoMemory>
-    requires spellable { IsSpellable q.now }
-    requires fits { Fits q.now }
-    ensures { IfOk result (λ bytes. bytes ≡ spelled q.now) }
-{
-    let mut w = Writer::new(alloc);
-    write_head(alloc, &mut w, q)?;
-    write_body(alloc, &mut w, q)?;
-    Ok(Bytes::from_vec(w.into_bytes())?)
-}
-
-/// The bytes of a request: the call of a COMPOUND, by AUTH_SYS with the machine name `n41`, stamp 0 and no further gids. The tag is
-/// empty.
-#[tactic(auto, using(crate::proofs::Small::is_short))]
-pub fn spell(alloc: Global, q: &Request) -> Result<Bytes, NoMemory>
-    requires { IsSpellable q.now }
-    ensures text { IfOk result (λ bytes. bytes ≡ spelled q.now) }
-    ensures small { IfOk result (λ bytes. IsSmall q.now.plan → length bytes ≤ 4000) }
-{
-    request_fits(q);
-    request_has_names(q);
-    spell_whole(alloc, q)
 }

@@ -1,4 +1,4 @@
-ghost use Rattle.n41_due.specs.Laws.{OneWant};
+ghost use Rattle.n41_wants.specs.Laws.{OneWant};
 
 /// A law: no two things are wanted at once, so that each is wanted exactly where its definition says.
 #[tactic(auto, using(crate::proofs::OneWant::one_want))]

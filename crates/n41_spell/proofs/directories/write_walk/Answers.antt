@@ -2,7 +2,7 @@ use Rattle.std.proofs.Common.{[], ◌∷◌, List, ℕ, map, subst, sym}
 use Rattle.n41_args.specs.declared.arg.Arg.TheVariants.{Lookup, GetFh}
 use Rattle.n41_requests.specs.Requests.{AllFit}
 use Rattle.n41_requests.proofs.Lists.{names_of, last_of}
-use Rattle.n41_requests.proofs.directories.write_walk.Goals as goal
+use Rattle.n41_spell.proofs.directories.write_walk.Goals as goal
 
 pub write_names-requires : goal.write_names-requires
 write_names-requires c =

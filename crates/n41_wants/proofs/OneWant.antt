@@ -5,9 +5,9 @@ use Rattle.n41_types.specs.declared.plans.Request.{Request}
 use Rattle.n41_model.specs.declared.words.Setup.{Setup}
 use Rattle.n41_view.specs.View.{View}
 use Rattle.n41_view.specs.Due.{due_in, has_ended_in}
-use Rattle.n41_due.specs.declared.wants.Want.{Want}
-use Rattle.n41_due.specs.declared.wants.Want.TheVariants.{Dial, Send, Read, Pause, Nothing}
-use Rattle.n41_due.specs.Wants.{WantIn, RunsOn, awaits_in, wait_in}
+use Rattle.n41_wants.specs.declared.wants.Want.{Want}
+use Rattle.n41_wants.specs.declared.wants.Want.TheVariants.{Dial, Send, Read, Pause, Nothing}
+use Rattle.n41_wants.specs.Wants.{WantIn, RunsOn, awaits_in, wait_in}
 
 clash : (b : Bool) → b ≡ true → b ≡ false → ⊥
 clash b p q = cc

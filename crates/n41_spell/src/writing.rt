@@ -92,7 +92,7 @@ fn write_plan(alloc: Global, w: &mut Writer, plan: &Plan) -> Result<(), NoMemory
 }
 
 /// How many operations a plan has, behind its SEQUENCE.
-#[tactic(auto, using(crate::proofs::Counts::walk_count))]
+#[tactic(auto, using(n41_requests::proofs::Counts::walk_count))]
 fn count(plan: &Plan) -> u32
     requires { IsSpellablePlan plan.now }
     ensures { result ≡ length (args_of plan.now) }
@@ -128,7 +128,7 @@ fn count(plan: &Plan) -> u32
 }
 
 /// How many operations a request has.
-#[tactic(auto, using(crate::proofs::Counts::plan_count))]
+#[tactic(auto, using(n41_requests::proofs::Counts::plan_count))]
 fn request_count(q: &Request) -> u32
     requires { IsSpellable q.now }
     ensures { result ≡ length (request_args q.now) }
@@ -154,7 +154,7 @@ fn write_operations(alloc: Global, w: &mut Writer, q: &Request) -> Result<(), No
 }
 
 /// The tag, the minor version and the operations.
-#[tactic(auto, unfolding(crate::specs::Requests::Fits))]
+#[tactic(auto, unfolding(n41_requests::specs::Requests::Fits))]
 pub(crate) fn write_body(alloc: Global, w: &mut Writer, q: &Request) -> Result<(), NoMemory>
     requires spellable { IsSpellable q.now }
     requires fits { Fits q.now }
