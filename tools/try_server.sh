@@ -257,6 +257,33 @@ try_changes() {
     report "the server's tree shows each change once" $? "printed '$(cat "$state/changed.out")'"
 }
 
+# 60 callers make 50 directories each, while every 40th record of the server is lost with its connection; then the directory is listed while every fourth is.
+try_list() {
+    local caller
+    echo "a mkdir /many" >"$state/many-made.script"
+    start many-made "$state/many-made.script" run "127.0.0.1:$server_port"
+    relay filled 40
+    for caller in $(seq 60); do
+        seq 50 | sed "s#^#c$caller mkdir /many/n$caller-#"
+    done >"$state/filled.script"
+    start filled "$state/filled.script" run "127.0.0.1:$(cat "$state/filled.port")"
+    [ "$(cat "$state/filled.status")" = 0 ] && [ "$(grep -cE "^[0-9]+ c[0-9]+ made$" "$state/filled.out")" -eq 3000 ]
+    report "3,000 directories through $(cat "$state/filled.wire/cuts" 2>/dev/null) cuts" $? \
+        "status $(cat "$state/filled.status"), $(grep -c " made$" "$state/filled.out") made, fault '$(cat "$state/filled.err")'"
+    relay listed 4
+    printf '%s\n' "a list /many" "a pause 1" "a list /many/n1-1" "a list /none" >"$state/listed.script"
+    listen listed
+    start listed "$state/listed.script" run "127.0.0.1:$(cat "$state/listed.port")"
+    sed -n '1s/^1 a names 3000 //p' "$state/listed.out" | tr ' ' '\n' | sort >"$state/listed.names"
+    sed 's#.*/##' "$state/filled.script" | sort >"$state/filled.names"
+    [ "$(cat "$state/listed.status")" = 0 ] && cmp -s "$state/listed.names" "$state/filled.names" &&
+        [ "$(tail -n +2 "$state/listed.out")" = "$(printf '%s\n' "2 a paused" "3 a names 0" "4 a refused 2")" ]
+    report "a list of 3,000 names through $(cat "$state/listed.wire/cuts" 2>/dev/null) cuts" $? \
+        "status $(cat "$state/listed.status"), $(wc -l <"$state/listed.names") names, $(tail -n +2 "$state/listed.out" | tr '\n' ';'), fault '$(cat "$state/listed.err")'"
+    hush
+    unmarred listed
+}
+
 try_nobody() {
     local begin end
     begin=$(date +%s%N)
@@ -282,6 +309,7 @@ try_dump
 try_stat
 try_many
 try_changes
+try_list
 try_nobody
 start nowhere /dev/null run
 expect nowhere 2 "" "bad word at 2"

@@ -32,7 +32,7 @@ certain : UnknownCause 1 (failed 16) 0 → ⊥
 certain w = let e = w.is_out in cc
 
 pub kept_unheard : Kept lone_caller unheard
-kept_unheard = (kept_failed 16, record { caller = lit< tt; asked = refl; number_is = refl; cause = record { count = refl; ended = lit≤ tt; certain = certain } })
+kept_unheard = (kept_failed 16, record { caller = lit< tt; asked = refl; number_is = refl; cause = record { count = refl; ungiven = refl; ended = lit≤ tt; certain = certain } })
 
 -- one list with the place of the answer belongs to the run
 pub indexed : (js : List Event) (ls : List (List ℕ)) → js ≡ unheard → ls ≡ (18 ∷ []) ∷ [] → (u : Setup) × Indexes u js ls

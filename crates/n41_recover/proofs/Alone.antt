@@ -18,7 +18,7 @@ use Rattle.n41_model.specs.declared.words.Setup.{Setup}
 use Rattle.n41_model.specs.Replies.{is_final}
 use Rattle.n41_model.specs.Requests.{outs, out, bares, bare, bare_waits, moment, made, is_on, is_bare, has_xid}
 use Rattle.n41_model.specs.Sessions.{session, slots, free_slot, next_xid, phase, put_off, passed, is_lease_time, is_empty}
-use Rattle.n41_model.specs.Calls.{command, call, plan_next, walk_most, owner}
+use Rattle.n41_model.specs.Calls.{command, call, plan_next, owner}
 use Rattle.n41_recover.proofs.Plans.{NotLease, next_not}
 use Rattle.n41_model.specs.Kept.{Kept, May}
 use Rattle.n41_model.specs.Due.{item_due, with_plan, on_free, on_free_slot, bare_with, bare_due, step_plan, own_plan, destroy_plan, finishing, own_from, any_own, may_retry, may_step, may_own, may_begin, may_destroy, is_open}
@@ -117,7 +117,7 @@ item_same u js item.Own r q s t k o a e f g h =
     absurd (no_other u js s q k o b.0 g h)
 item_same u js (item.Fresh c) r q s t k o a e f g h =
     let b = only_if_some (may_begin u js c) (with_plan (plan_next u.callers js c) (on_free_slot u js)) r e in
-    let d = fresh_plan u js (plan_next u.callers js c) r (next_not (walk_most (session js)) (command js c) (call u.callers js c).way) b.1 in
+    let d = fresh_plan u js (plan_next u.callers js c) r (next_not (session js) (command js c) (call u.callers js c).way) b.1 in
     let l = and_left (is_lease_time r.plan) (not (is_bare r)) f in
     let z : true ≡ false = sym l ∙ d in
     absurd (cc)

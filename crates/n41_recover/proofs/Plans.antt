@@ -12,16 +12,18 @@ use Rattle.n41_results.specs.declared.replies.ReplyBody.{ReplyBody}
 use Rattle.n41_results.specs.declared.replies.ReplyBody.TheVariants.{Denied, Rejected, Results}
 use Rattle.n41_results.specs.declared.results.Res.{Res}
 use Rattle.n41_results.specs.declared.results.Res.TheVariants as res
+use Rattle.n41_results.specs.declared.sessions.SessionMade.{SessionMade}
 use Rattle.n41_journal.specs.declared.events.Event.{Event}
 use Rattle.n41_model.specs.declared.words.Phase.{Phase}
 use Rattle.n41_model.specs.declared.words.Phase.TheVariants.{Down, Binding, Session, ClientId, Settling, Reclaiming, Completing, Running, Dead}
+use Rattle.n41_model.specs.declared.words.Listed.{Listed}
 use Rattle.n41_model.specs.declared.words.Way.{Way}
 use Rattle.n41_model.specs.declared.words.Verdict.{Verdict}
 use Rattle.n41_model.specs.declared.words.Verdict.TheVariants as v
 use Rattle.n41_model.specs.Replies.{is_breach, is_ok, is_delay, is_not_bound, is_uncached, is_size_refusal, is_reading, has_its_answer, repeats, sequenced_verdict, body_verdict, bare_body_verdict}
 use Rattle.n41_model.specs.Requests.{moment}
 use Rattle.n41_model.specs.Sessions.{is_lease_time, session, slot_phase}
-use Rattle.n41_model.specs.Calls.{Call, command, ahead, goal, last_of, make_dir, remove, rename, next_plan, walk_most, walk_or, is_plan, is_ready_call, chosen, sooner, in_running}
+use Rattle.n41_model.specs.Calls.{Call, command, ahead, goal, last_of, list, make_dir, remove, rename, next_plan, walk_most, list_size, walk_or, is_plan, is_ready_call, chosen, sooner, in_running}
 use Rattle.n41_recover.specs.Recovery.{kind_of}
 use Rattle.n41_recover.specs.Step.{kind_verdict, told_run, told_verdict}
 
@@ -120,17 +122,22 @@ rename_not (Some d) None at new = tt
 rename_not (Some d) (Some m) at None = tt
 rename_not (Some d) (Some m) at (Some n) = (refl, refl)
 
-goal_not : (k : Command) (w : Way) → NotLease (goal k w)
-goal_not (asks.Stat p) w = (refl, refl)
-goal_not (asks.MakeDir p) w = make_not w.at (last_of p)
-goal_not (asks.Remove p) w = remove_not w.at (last_of p)
-goal_not (asks.Rename p q) w = rename_not w.old (last_of p) w.at (last_of q)
-goal_not k w = tt
+list_not : (size : ℕ) (at : Place) (l : Option Listed) → NotLease (list size at l)
+list_not size at None = tt
+list_not size at (Some l) = (refl, refl)
+
+goal_not : (size : ℕ) (k : Command) (w : Way) → NotLease (goal size k w)
+goal_not size (asks.Stat p) w = (refl, refl)
+goal_not size (asks.List p) w = list_not size w.at w.listed
+goal_not size (asks.MakeDir p) w = make_not w.at (last_of p)
+goal_not size (asks.Remove p) w = remove_not w.at (last_of p)
+goal_not size (asks.Rename p q) w = rename_not w.old (last_of p) w.at (last_of q)
+goal_not size k w = tt
 
 -- no command asks for the lease time
-pub next_not : (most : ℕ) (k : Option Command) (w : Way) → NotLease (next_plan most k w)
-next_not most None w = tt
-next_not most (Some k) w = walk_not most w.at (ahead k w) (goal k w) (goal_not k w)
+pub next_not : (m : Option SessionMade) (k : Option Command) (w : Way) → NotLease (next_plan m k w)
+next_not m None w = tt
+next_not m (Some k) w = walk_not (walk_most m) w.at (ahead k w) (goal (list_size m) k w) (goal_not (list_size m) k w)
 
 not_plan : (o : Option Plan) → NotLease o → is_plan o plan.LeaseTime ≡ false
 not_plan None h = refl
@@ -143,7 +150,7 @@ and_none false b e = refl
 pub none_chosen : (js : List Event) (calls : ℕ → Call) (n : ℕ) → chosen js calls plan.LeaseTime n ≡ None
 none_chosen js calls zero = refl
 none_chosen js calls (suc c) =
-    let e = and_none (is_ready_call (moment js) (command js c) (calls c)) (is_plan (next_plan (walk_most (session js)) (command js c) (calls c).way) plan.LeaseTime) (not_plan (next_plan (walk_most (session js)) (command js c) (calls c).way) (next_not (walk_most (session js)) (command js c) (calls c).way)) in
+    let e = and_none (is_ready_call (moment js) (command js c) (calls c)) (is_plan (next_plan (session js) (command js c) (calls c).way) plan.LeaseTime) (not_plan (next_plan (session js) (command js c) (calls c).way) (next_not (session js) (command js c) (calls c).way)) in
     ap (λ (b : Bool). if b then sooner js (chosen js calls plan.LeaseTime c) c else chosen js calls plan.LeaseTime c) e ∙ none_chosen js calls c
 
 pub in_none : (f : Phase) → in_running f None ≡ None

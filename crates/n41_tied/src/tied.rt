@@ -1,11 +1,14 @@
-ghost use Rattle.std.specs.Prelude.{◌≡◌, ◌∷◌, ◌<◌, ◌≤◌, ◌-◌, [], length, IfOk, OnOk, OnErr};
-ghost use Rattle.n41_model.specs.Kept.{May, Kept};
+ghost use Rattle.std.specs.Prelude.{◌≡◌, ◌∷◌, ◌<◌, ◌≤◌, ◌-◌, Some, [], length, IfOk, OnOk, OnErr};
+ghost use Rattle.n41_types.specs.declared.commands.Answer.{Answer as AnswerValue};
+ghost use Rattle.n41_journal.specs.declared.events.Event.{Event as EventValue};
+ghost use Rattle.n41_model.specs.Calls.{call, either};
+ghost use Rattle.n41_model.specs.Kept.{May, MayAnswer, Kept};
 ghost use Rattle.n41_view.specs.View.{view};
 
 use n41_journal::{Event, Journal};
 use n41_model::Setup;
 use n41_tables::{EventCopy, Tables};
-use n41_types::NoMemory;
+use n41_types::{Answer, NoMemory};
 use std::alloc::Global;
 use std::marker::Model;
 
@@ -111,5 +114,25 @@ impl Tied {
         let _count = self.journal.as_slice().len();
         self.journal.add(event);
         self.tables.step(copy);
+    }
+
+    /// Adds the answer to the caller's command of this number, in the room that was made: the late one that is handed over, or where there
+    /// is none, the one that the last reply to the command gave. The tables give that one up, so that no answer is copied and no
+    /// memory is taken.
+    pub fn answer(&mut self, caller: u32, number: u64, late: Option<Answer>)
+        ghost given: { AnswerValue }
+        requires room { 0 < self.old.room }
+        requires given { either late (call self.old.setup.callers self.old.events caller).earned ≡ Some given }
+        requires may { MayAnswer self.old.setup self.old.events caller number given }
+        ensures { self.new ≡ record { setup = self.old.setup; events = EventValue.Answered caller number given ∷ self.old.events; room = self.old.room - 1 } }
+    {
+        let _count = self.journal.as_slice().len();
+        let earned = self.tables.answered(caller);
+        let answer = late.or(earned).unwrap();
+        self.journal.add(Event::Answered {
+            caller,
+            number,
+            answer,
+        });
     }
 }
