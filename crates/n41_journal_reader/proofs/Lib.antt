@@ -1,2 +1,5 @@
 pub mod Firsts
 pub mod Steps
+pub mod Tellings
+pub mod One
+pub mod Texts

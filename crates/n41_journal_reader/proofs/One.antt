@@ -1,6 +1,6 @@
 -- A text says one thing.
-use Rattle.std.proofs.Common.{◌≡◌, ◌≢◌, ◌<◌, ◌≤◌, ◌⊎◌, ℕ, zero, suc, not, Bool, true, false, List, [], ◌∷◌, ◌++◌, length, take, drop, slice_get, Option, Some, None, Result, Ok, Err, refl, ap, sym, subst, ◌∙◌, inl, inr, arith}
-use Rattle.std.specs.List.{filter}
+use Rattle.std.proofs.Common.{◌≡◌, ◌<◌, ℕ, zero, suc, not, Bool, true, false, if◌then◌else◌, List, [], ◌∷◌, take, slice_get, Option, Some, None, Result, Ok, Err, refl, ap, sym, subst, ◌∙◌, inl, inr, arith}
+use Rattle.std.proofs.lemmas.Bool.{cases_order}
 use Rattle.n41_types.specs.declared.plans.Request.{Request}
 use Rattle.n41_seen.specs.declared.calls.CallSeen.{CallSeen}
 use Rattle.n41_seen.specs.Calls as calls
@@ -66,3 +66,59 @@ same_events (l ∷ ls) (e ∷ es) (f ∷ fs) h g =
     let heads = same_event l e f h.0 g.0 in
     let tails = same_events ls es fs h.1 g.1 in
     cc
+
+rest_of : (b : Bool) (l : List ℕ) (ls : List (List ℕ)) (es : List Event) → SayEach (if b then l ∷ ls else ls) es → (fs : List Event) × SayEach ls fs
+rest_of false l ls es h = (es, h)
+rest_of true l ls [] h = absurd h
+rest_of true l ls (e ∷ es) h = (es, h.1)
+
+said_first : (b : Bool) (l : List ℕ) (ls : List (List ℕ)) (es : List Event) → b ≡ true → SayEach (if b then l ∷ ls else ls) es → (e : Event) × SaysEvent l e
+said_first false l ls es s h = absurd cc
+said_first true l ls [] s h = absurd h
+said_first true l ls (e ∷ es) s h = (e, h.0)
+
+-- a line that is told says one of the events
+said_at : (ls : List (List ℕ)) (n : ℕ) (x : List ℕ) (es : List Event) → slice_get ls n ≡ Some x → is_skipped x ≡ false → SayEach (told_lines ls) es → (e : Event) × SaysEvent x e
+said_at [] zero x es g s h = absurd cc
+said_at [] (suc n) x es g s h = absurd cc
+said_at (l ∷ ls) zero x es g s h =
+    let same : l ≡ x = cc in
+    let told : not (is_skipped l) ≡ true = ap (λ (w : List ℕ). not (is_skipped w)) same ∙ ap not s in
+    let first = said_first (not (is_skipped l)) l (told_lines ls) es told h in
+    (first.0, subst (λ (w : List ℕ). SaysEvent w first.0) same first.1)
+said_at (l ∷ ls) (suc n) x es g s h =
+    let others = rest_of (not (is_skipped l)) l (told_lines ls) es h in
+    said_at ls n x others.0 g s others.1
+
+-- ---- texts
+
+pub not_refused : (text : List ℕ) (es : List Event) (n : ℕ) (k : LineKind) → SayEach (told_lines (lines text)) es → IsFirstRefused text n k → ⊥
+not_refused text es n k h r =
+    let said = said_at (lines text) r.place r.line es r.there r.told h in
+    not_both r.line said.0 k said.1 r.refused
+
+taken_at : (ls : List (List ℕ)) (n m : ℕ) (x : List ℕ) → n < m → slice_get ls n ≡ Some x → slice_get (take m ls) n ≡ Some x
+taken_at [] zero m x l g = absurd cc
+taken_at [] (suc n) m x l g = absurd cc
+taken_at (y ∷ ys) n zero x l g = absurd (omega arith)
+taken_at (y ∷ ys) zero (suc m) x l g = g
+taken_at (y ∷ ys) (suc n) (suc m) x l g = taken_at ys n m x (omega arith) g
+
+-- no line before the first that is refused is refused
+none_before : (text : List ℕ) (n m : ℕ) (j k : LineKind) (h : IsFirstRefused text n j) (g : IsFirstRefused text m k) → h.place < g.place → ⊥
+none_before text n m j k h g l =
+    let said = said_at (take g.place (lines text)) h.place h.line g.before (taken_at (lines text) h.place g.place h.line l h.there) h.told g.said in
+    not_both h.line said.0 j said.1 h.refused
+
+pub same_refusal : (text : List ℕ) (n m : ℕ) (j k : LineKind) → IsFirstRefused text n j → IsFirstRefused text m k → (n ≡ m) × (j ≡ k)
+same_refusal text n m j k h g = elim (cases_order h.place g.place) [
+  | inl e ↦
+      let there : slice_get (lines text) h.place ≡ Some g.line = ap (slice_get (lines text)) e ∙ g.there in
+      let both : Some h.line ≡ Some g.line = sym h.there ∙ there in
+      let line : h.line ≡ g.line = cc both in
+      (h.number_is ∙ ap suc e ∙ sym g.number_is, same_fault g.line j k (subst (λ (w : List ℕ). IsRefused w j) line h.refused) g.refused)
+  | inr l ↦ elim l [
+    | inl before ↦ absurd (none_before text n m j k h g before)
+    | inr behind ↦ absurd (none_before text m n k j g h behind)
+  ]
+]

@@ -1,5 +1,5 @@
 -- What a line of a journal says: an event, or its first fault (own).
-use Rattle.std.specs.Prelude.{◌≡◌, ℕ, List, [], ◌∷◌, if◌then◌else◌, codes, Option, Some, None, Result, Ok, Err}
+use Rattle.std.specs.Prelude.{◌≡◌, ℕ, false, List, [], ◌∷◌, if◌then◌else◌, codes, Option, Some, None, Result, Ok, Err}
 use Rattle.n41_types.specs.declared.commands.Command.{Command}
 use Rattle.n41_types.specs.declared.plans.Request.{Request}
 use Rattle.n41_journal.specs.declared.events.Cause.{Cause}
@@ -66,7 +66,7 @@ began_of words = do
   caller ← form_at number32 words
   number ← form_at number64 caller.1
   moment ← form_at number64 number.1
-  command ← as_journal (command_of Bool.false moment.1)
+  command ← as_journal (command_of false moment.1)
   Ok (event.Began caller.0 number.0 command moment.0)
 
 -- a connection and a place

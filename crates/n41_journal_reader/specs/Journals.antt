@@ -1,6 +1,7 @@
 -- What a text says as a journal, and where it is none (own).
-use Rattle.std.specs.Prelude.{◌≡◌, ◌≤◌, ◌⊎◌, ℕ, suc, not, List, [], ◌∷◌, length, take, slice_get, Result, Ok, Err, Some, true, false}
+use Rattle.std.specs.Prelude.{◌≡◌, ◌≤◌, ◌⊎◌, ℕ, suc, not, List, [], ◌∷◌, length, take, reverse, slice_get, Result, Ok, Err, Some, true, false}
 use Rattle.std.specs.List.{filter}
+use Rattle.n41_journal.specs.Journal.{Log}
 use Rattle.n41_journal.specs.declared.events.Event.{Event}
 use Rattle.n41_words.specs.Lines.{lines, words, is_skipped}
 use Rattle.n41_words.specs.declared.fault.LineFault.{LineFault}
@@ -61,3 +62,9 @@ IsLineFault text fault.NoMemory = Unit {0}
 abbrev pub IsFault : List ℕ → ScriptFault → Type 0
 IsFault text (fault.Line number k) = IsTooLong text number k ⊎ ((length text ≤ script_limit) × IsFirstRefused text number k)
 IsFault text fault.NoMemory = Unit {0}
+
+-- a journal of these events was read, unless memory ran out
+abbrev pub IsAnswerTo : Result Log ScriptFault → List Event → Type 0
+IsAnswerTo (Ok j) es = reverse j.events ≡ es
+IsAnswerTo (Err (fault.Line number k)) es = ⊥
+IsAnswerTo (Err fault.NoMemory) es = Unit {0}

@@ -1,13 +1,13 @@
 // The events of lines.
-ghost use Rattle.std.specs.Prelude.{◌≡◌, ℕ};
+ghost use Rattle.std.specs.Prelude.{◌≡◌, ℕ, false};
 ghost use Rattle.n41_words.specs.Lines.{words};
 ghost use Rattle.n41_words.specs.Numbers.{hex_bytes};
 ghost use Rattle.n41_words.specs.Faults.{Gives};
 ghost use Rattle.n41_commands.specs.Commands.{command_of};
-ghost use Rattle.n41_journal_words.specs.Reading.{Reads};
+ghost use Rattle.n41_journal_words.specs.Reading.{form_at, Reads};
 ghost use Rattle.n41_journal.specs.declared.events.Event.TheVariants as event;
 ghost use Rattle.n41_journal_reader.specs.Messages.{reply_of, callback_of, callback_reply_of};
-ghost use Rattle.n41_journal_reader.specs.Events.{journal_kind, as_journal, began_of, place_at, message_of, broke_of, answered_of, bytes_at, SaysPut, SaysBehind, Says, Tells};
+ghost use Rattle.n41_journal_reader.specs.Events.{journal_kind, as_journal, began_of, place_at, message_of, broke_of, answered_of, bytes_at, put_of, first_of, SaysPut, SaysBehind, Says, Tells};
 
 use crate::causes::read_cause;
 use crate::first::{First, read_first};
@@ -15,7 +15,7 @@ use crate::messages::{callback, callback_reply, reply, request_in};
 use n41_commands::read_command;
 use n41_journal::Event;
 use n41_journal_words::{Words, read_answer};
-use n41_types::{Bytes, Command};
+use n41_types::{Bytes, Command, Request};
 use n41_words::{LineFault, LineKind, hex_bytes};
 use std::alloc::Global;
 
@@ -31,7 +31,7 @@ fn journal_kind(kind: LineKind) -> LineKind
 
 /// The command that the words to the end of a line say.
 fn command(alloc: Global, words: &Words<'_>) -> Result<Command, LineFault>
-    ensures { Gives result (as_journal (command_of Bool.false words.now)) }
+    ensures { Gives result (as_journal (command_of false words.now)) }
 {
     match read_command(alloc, false, words.rest()) {
         Ok(command) => Ok(command),
@@ -113,7 +113,7 @@ fn answered(alloc: Global, words: &mut Words<'_>) -> Result<Event, LineFault>
 }
 
 /// The place of a request and its bytes.
-fn bytes(alloc: Global, words: &mut Words<'_>) -> Result<((u64, u64), Bytes), LineFault>
+fn placed_bytes(alloc: Global, words: &mut Words<'_>) -> Result<((u64, u64), Bytes), LineFault>
     ensures { Reads (λ x. x) result words.new (bytes_at words.old) }
 {
     let at = place(words)?;
@@ -122,18 +122,30 @@ fn bytes(alloc: Global, words: &mut Words<'_>) -> Result<((u64, u64), Bytes), Li
     Ok((at, bytes))
 }
 
+/// The event of a request that was found at a place, where the words end here.
+fn found_event(
+    words: &Words<'_>,
+    at: (u64, u64),
+    found: Option<Request>,
+) -> Result<Event, LineFault>
+    ensures { Gives result (put_of found at words.now) }
+{
+    match found {
+        Some(request) => words.end_with(Event::Put {
+            conn: at.0,
+            place: at.1,
+            request,
+        }),
+        None => Err(LineFault::Kind(LineKind::Hex)),
+    }
+}
+
 fn put(alloc: Global, words: &mut Words<'_>) -> Result<Event, LineFault>
     ensures { Tells result (SaysPut (bytes_at words.old)) }
 {
-    let ((conn, place), bytes) = bytes(alloc, words)?;
-    let Some(request) = request_in(alloc, bytes.as_slice())? else {
-        return Err(LineFault::Kind(LineKind::Hex));
-    };
-    words.end_with(Event::Put {
-        conn,
-        place,
-        request,
-    })
+    let placed = placed_bytes(alloc, words)?;
+    let found = request_in(alloc, &placed.1)?;
+    found_event(words, placed.0, found)
 }
 
 /// The event that the words behind its first word say.
@@ -159,11 +171,18 @@ fn read_behind(alloc: Global, first: First, words: &mut Words<'_>) -> Result<Eve
     }
 }
 
+/// The kind of event that the next word says.
+fn first(words: &mut Words<'_>) -> Result<First, LineFault>
+    ensures { Reads (λ first. first) result words.new (form_at first_of words.old) }
+{
+    let word = words.word()?;
+    Ok(read_first(word)?)
+}
+
 /// The event that words say, or their first fault.
 pub(crate) fn read_event(alloc: Global, words: &mut Words<'_>) -> Result<Event, LineFault>
     ensures { Tells result (Says words.old) }
 {
-    let word = words.word()?;
-    let first = read_first(word)?;
+    let first = first(words)?;
     read_behind(alloc, first, words)
 }

@@ -5,8 +5,10 @@ mod causes;
 mod events;
 mod first;
 mod lawful;
+mod laws;
 mod messages;
 mod reading;
 
+pub use laws::a_text_says_one_thing;
 pub use n41_words::{LineKind, ScriptFault};
 pub use reading::read_journal;

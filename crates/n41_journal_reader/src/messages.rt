@@ -7,15 +7,15 @@ use crate::lawful::is_lawful;
 use n41_cbmsg::{read_answer, read_call};
 use n41_compound::{read_reply, read_request, request_of};
 use n41_results::{CbCall, CbReply, Reply};
-use n41_types::{NoMemory, Request};
+use n41_types::{Bytes, NoMemory, Request};
 use n41_words::{LineFault, LineKind, hex_bytes};
 use std::alloc::{AllocError, Global};
 
 /// The request of which bytes are a call.
-pub(crate) fn request_in(alloc: Global, bytes: &[u8]) -> Result<Option<Request>, NoMemory>
+pub(crate) fn request_in(alloc: Global, bytes: &Bytes) -> Result<Option<Request>, NoMemory>
     ensures { IfOk result (λ found. IsFoundIn bytes.now found) }
 {
-    let call = match read_request(alloc, bytes) {
+    let call = match read_request(alloc, bytes.as_slice()) {
         Ok(call) => call,
         Err(n41_replies::MsgFault::NoMemory) => return Err(AllocError),
         Err(_) => return Ok(None),

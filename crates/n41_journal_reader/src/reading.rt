@@ -1,7 +1,8 @@
 // The lines of a journal, read one after another.
-ghost use Rattle.std.specs.Prelude.{◌≡◌, [], reverse, IfOk, IfErr};
+ghost use Rattle.std.specs.Prelude.{◌≡◌, [], List, reverse, IfOk, IfErr};
 ghost use Rattle.n41_words.specs.Lines.{lines};
-ghost use Rattle.n41_journal_reader.specs.Journals.{told_lines, SayEach, IsJournal, IsLineFault, IsFault, Adds};
+ghost use Rattle.n41_journal_reader.specs.Journals.{told_lines, SayEach, IsJournal, IsLineFault, IsFault, IsAnswerTo, Adds};
+ghost use Rattle.n41_journal.specs.declared.events.Event.{Event};
 
 use crate::events::read_event;
 use n41_journal::Journal;
@@ -42,9 +43,8 @@ fn read_lines(alloc: Global, text: &[u8]) -> Result<Journal, ScriptFault>
     Ok(journal)
 }
 
-/// What a text says as a journal (own), or the number of its first line that is refused, and the first fault of that line. A text above
-/// 16 MiB has the fault `Limit` at line 0.
-pub fn read_journal(alloc: Global, text: &[u8]) -> Result<Journal, ScriptFault>
+/// Reads a text.
+fn read_text(alloc: Global, text: &[u8]) -> Result<Journal, ScriptFault>
     ensures ok { IfOk result (λ j. IsJournal text.now (reverse j.events)) }
     ensures err { IfErr result (λ f. IsFault text.now f) }
 {
@@ -55,4 +55,17 @@ pub fn read_journal(alloc: Global, text: &[u8]) -> Result<Journal, ScriptFault>
         });
     }
     read_lines(alloc, text)
+}
+
+/// What a text says as a journal (own), or the number of its first line that is refused, and the first fault of that line. A text above
+/// 16 MiB has the fault `Limit` at line 0.
+pub fn read_journal(alloc: Global, text: &[u8]) -> Result<Journal, ScriptFault>
+    // What is read is a journal of these events.
+    ensures ok { IfOk result (λ j. IsJournal text.now (reverse j.events)) }
+    // A journal is read as its events, unless memory runs out.
+    ensures only { (es : List Event) → IsJournal text.now es → IsAnswerTo result es }
+    // Which fault it is.
+    ensures err { IfErr result (λ f. IsFault text.now f) }
+{
+    read_text(alloc, text)
 }
