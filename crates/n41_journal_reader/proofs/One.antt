@@ -20,7 +20,7 @@ use Rattle.n41_journal_reader.specs.declared.first.First.TheVariants as first
 
 same_call : (bytes : List ℕ) (q r : Request) → IsCallOf bytes q → IsCallOf bytes r → q ≡ r
 same_call bytes q r h g =
-    let both : Ok (seen_of q) ≡ Ok (seen_of r) = sym h.seen ∙ g.seen in
+    let both : Ok (seen_of q) ≡ Ok (seen_of r) = sym h.is_seen ∙ g.is_seen in
     let seen : seen_of q ≡ seen_of r = cc both in
     one_request (seen_of q) q r h.lawful g.lawful refl seen
 

@@ -24,7 +24,6 @@ pub never_both : (text : List ℕ) (es : List Event) (n : ℕ) (k : LineKind) �
 never_both text es n k h (inl g) = let w = h.within in let l = g.behind in absurd (omega arith)
 never_both text es n k h (inr g) = not_refused text es n k h.said g.1
 
-
 -- what is answered to a journal
 pub answered : (text : List ℕ) (es : List Event) (r : Result Log ScriptFault) → IsJournal text es → IfOk r (λ j. IsJournal text (reverse j.events)) → IfErr r (λ f. IsFault text f) → IsAnswerTo r es
 answered text es (Ok j) h ok err = one_journal text (reverse j.events) es ok h

@@ -8,6 +8,8 @@ mod lawful;
 mod laws;
 mod messages;
 mod reading;
+#[cfg(test)]
+mod tests;
 
 pub use laws::a_text_says_one_thing;
 pub use n41_words::{LineKind, ScriptFault};

@@ -18,7 +18,7 @@ pub returns-in-CbPut : goal.returns-in-CbPut
 returns-in-CbPut c = rw c.in-CbPut.is (tells c.callback_put.result (message_of callback_reply_of event.CbPut c.args.words.now) c.callback_put.ensures)
 
 pub returns-in-DialFailed : goal.returns-in-DialFailed
-returns-in-DialFailed c = rw c.in-DialFailed.is (tells c.end_with-in-DialFailed.result (alone event.DialFailed c.args.words.now) c.end_with-in-DialFailed.ensures)
+returns-in-DialFailed c = rw c.in-DialFailed.is (tells c.end_with.result (alone event.DialFailed c.args.words.now) c.end_with.ensures)
 
 pub returns-in-Broke : goal.returns-in-Broke
 returns-in-Broke c = rw c.in-Broke.is (tells c.broke.result (broke_of c.args.words.now) c.broke.ensures)
