@@ -1,12 +1,12 @@
 -- The request of a call.
-use Rattle.std.proofs.Common.{◌≡◌, ℕ, List, Option, Some, None, Result, Ok, Err, ap, sym, subst, ◌∙◌}
+use Rattle.std.proofs.Common.{◌≡◌, ℕ, List, Option, Some, None, Result, Ok, Err, ap, sym, ◌∙◌}
 use Rattle.std.specs.Prelude.{IfOk}
 use Rattle.n41_types.specs.declared.plans.Request.{Request}
 use Rattle.n41_replies.specs.declared.fault.MsgFault.{MsgFault}
 use Rattle.n41_seen.specs.declared.calls.CallSeen.{CallSeen}
 use Rattle.n41_seen.specs.Calls.{call_at}
 use Rattle.n41_compound.specs.Calls.{seen_of, IsLawful, IsSpelledBy}
-use Rattle.n41_journal_reader.specs.Messages.{IsCallOf, seen, IsFoundIn}
+use Rattle.n41_journal_reader.specs.Messages.{seen, IsFoundIn}
 
 -- ---- a call that was read
 

@@ -2,8 +2,6 @@
 use Rattle.std.proofs.Common.{◌≡◌, ◌<◌, ℕ, zero, suc, not, Bool, true, false, if◌then◌else◌, List, [], ◌∷◌, take, slice_get, Option, Some, None, Result, Ok, Err, refl, ap, sym, subst, ◌∙◌, inl, inr, arith}
 use Rattle.std.proofs.lemmas.Bool.{cases_order}
 use Rattle.n41_types.specs.declared.plans.Request.{Request}
-use Rattle.n41_seen.specs.declared.calls.CallSeen.{CallSeen}
-use Rattle.n41_seen.specs.Calls as calls
 use Rattle.n41_compound.specs.Calls.{seen_of}
 use Rattle.n41_compound.proofs.OneRequest.{one_request}
 use Rattle.n41_journal.specs.declared.events.Event.{Event}

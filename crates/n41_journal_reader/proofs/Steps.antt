@@ -1,12 +1,11 @@
 -- One line more is read.
-use Rattle.std.proofs.Common.{◌≡◌, ℕ, zero, suc, not, Bool, true, false, if◌then◌else◌, List, [], ◌∷◌, ◌++◌, length, take, drop, reverse, slice_get, Result, Ok, Err, Some, refl, ap, sym, subst, ◌∙◌, inl, inr}
+use Rattle.std.proofs.Common.{◌≡◌, ℕ, zero, suc, not, Bool, true, false, if◌then◌else◌, List, [], ◌∷◌, ◌++◌, take, drop, reverse, slice_get, Ok, Err, Some, refl, ap, sym, subst, ◌∙◌, inl, inr}
 use Rattle.std.proofs.lemmas.Grind.{reverse_onto}
 use Rattle.n41_journal.specs.declared.events.Event.{Event}
 use Rattle.n41_words.specs.Lines.{lines, is_skipped}
 use Rattle.n41_words.specs.Faults.{at_line}
 use Rattle.n41_words.specs.declared.fault.LineFault.{LineFault}
 use Rattle.n41_words.specs.declared.fault.LineFault.TheVariants.{Kind, NoMemory}
-use Rattle.n41_words.specs.declared.fault.LineKind.{LineKind}
 use Rattle.n41_journal_reader.specs.Journals.{SaysEvent, told_lines, SayEach, Adds, IsLineFault}
 
 -- ---- lists of lines

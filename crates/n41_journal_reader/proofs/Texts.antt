@@ -1,5 +1,5 @@
 -- What is said of whole texts.
-use Rattle.std.proofs.Common.{◌≡◌, ◌<◌, ◌≤◌, ℕ, List, length, reverse, Result, Ok, Err, sym, ◌∙◌, inl, inr, arith}
+use Rattle.std.proofs.Common.{◌≡◌, ℕ, List, reverse, Result, Ok, Err, sym, ◌∙◌, inl, inr, arith}
 use Rattle.std.specs.Prelude.{IfOk, IfErr}
 use Rattle.n41_journal.specs.Journal.{Log}
 use Rattle.n41_journal.specs.declared.events.Event.{Event}
@@ -7,8 +7,7 @@ use Rattle.n41_words.specs.Lines.{lines}
 use Rattle.n41_words.specs.declared.fault.LineKind.{LineKind}
 use Rattle.n41_words.specs.declared.fault.ScriptFault.{ScriptFault}
 use Rattle.n41_words.specs.declared.fault.ScriptFault.TheVariants.{Line, NoMemory}
-use Rattle.n41_script.specs.Scripts.{script_limit, IsTooLong}
-use Rattle.n41_journal_reader.specs.Journals.{told_lines, IsJournal, IsFirstRefused, IsFault, IsAnswerTo}
+use Rattle.n41_journal_reader.specs.Journals.{told_lines, IsJournal, IsFault, IsAnswerTo}
 use Rattle.n41_journal_reader.proofs.One.{same_events, not_refused, same_refusal}
 
 pub one_journal : (text : List ℕ) (es fs : List Event) → IsJournal text es → IsJournal text fs → es ≡ fs

@@ -1,5 +1,5 @@
 // The events of lines.
-ghost use Rattle.std.specs.Prelude.{◌≡◌, ℕ, false};
+ghost use Rattle.std.specs.Prelude.{◌≡◌, false};
 ghost use Rattle.n41_words.specs.Lines.{words};
 ghost use Rattle.n41_words.specs.Numbers.{hex_bytes};
 ghost use Rattle.n41_words.specs.Faults.{Gives};

@@ -1,5 +1,4 @@
 // What the types of a request's parts say.
-ghost use Rattle.std.specs.Prelude.{◌<◌, ◌^◌};
 ghost use Rattle.n41_types.specs.Spans.{IsLength};
 ghost use Rattle.n41_compound.specs.Calls.{HasSpans, IsLawful};
 

@@ -1,5 +1,5 @@
 // The lines of a journal, read one after another.
-ghost use Rattle.std.specs.Prelude.{◌≡◌, [], List, reverse, IfOk, IfErr};
+ghost use Rattle.std.specs.Prelude.{List, reverse, IfOk, IfErr};
 ghost use Rattle.n41_words.specs.Lines.{lines};
 ghost use Rattle.n41_journal_reader.specs.Journals.{told_lines, SayEach, IsJournal, IsLineFault, IsFault, IsAnswerTo, Adds};
 ghost use Rattle.n41_journal.specs.declared.events.Event.{Event};

@@ -1,9 +1,9 @@
 // The answers to commands.
-ghost use Rattle.std.specs.Prelude.{◌≡◌, codes};
+ghost use Rattle.std.specs.Prelude.{codes};
 ghost use Rattle.n41_words.specs.Faults.{Gives};
 ghost use Rattle.n41_journal_words.specs.Names.{name_of};
 ghost use Rattle.n41_journal_words.specs.Reading.{form_at, field_at, Reads};
-ghost use Rattle.n41_journal_words.specs.Answers.{number32, number64, or_dash, mode, data_bytes, is_last, data_of, stat_of, names_at, more_at, names_of, not_of, answer_behind, answer_of};
+ghost use Rattle.n41_journal_words.specs.Answers.{number64, or_dash, mode, data_bytes, is_last, data_of, stat_of, names_at, names_of, not_of, answer_behind, answer_of};
 
 use crate::first::{First, read_first};
 use crate::forms::{data_bytes, is_last, mode_or_dash, number_or_dash};

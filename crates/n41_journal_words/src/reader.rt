@@ -1,5 +1,5 @@
 // The words of a line, read from left to right.
-ghost use Rattle.std.specs.Prelude.{◌≡◌, ◌≤◌, ◌+◌, ◌^◌, ℕ};
+ghost use Rattle.std.specs.Prelude.{◌≡◌, ℕ};
 ghost use Rattle.n41_words.specs.Lines.{words};
 ghost use Rattle.n41_words.specs.Numbers.{number};
 ghost use Rattle.n41_words.specs.Faults.{Gives};
