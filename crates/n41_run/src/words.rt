@@ -1,4 +1,4 @@
-ghost use Rattle.std.specs.Prelude.{◌≡◌, ◌<◌, ◌++◌, ◌∷◌, ◌↔◌, ℕ, codes, List, length, get_or, map, string_bytes, IsTrue, IsOk, IfOk, IfErr, IfSome, IfNone};
+ghost use Rattle.std.specs.Prelude.{◌≡◌, ◌<◌, ◌++◌, [], ◌∷◌, ◌↔◌, ℕ, codes, List, length, get_or, map, string_bytes, IsTrue, IsOk, IfOk, IfErr, IfSome, IfNone};
 ghost use Rattle.n41_run.specs.Words.{IsPort, IsAddress, IsVerb, IsOperand, IsForm, IsFirstBad, verb_text, side_text};
 ghost use Rattle.n41_lines.specs.declared.side.Side.{Side as SideValue};
 ghost use Rattle.n41_run.specs.Asked.{Asks, Takes};
@@ -14,6 +14,8 @@ pub enum Command<'a> {
     Run(&'a str),
     /// A line for each record of the input, which this side of a connection wrote.
     Dump(Side),
+    /// The journal on the input, checked by itself.
+    Replay,
 }
 
 /// The first words.
@@ -22,6 +24,7 @@ pub(crate) enum Verb {
     Probe,
     Run,
     Dump,
+    Replay,
 }
 
 fn verb_of(word: &str) -> Option<Verb>
@@ -32,6 +35,7 @@ fn verb_of(word: &str) -> Option<Verb>
         "probe" => Some(Verb::Probe),
         "run" => Some(Verb::Run),
         "dump" => Some(Verb::Dump),
+        "replay" => Some(Verb::Replay),
         _ => None,
     }
 }
@@ -77,7 +81,7 @@ fn is_address(text: &str) -> bool
 
 /// What a first word and the word behind it ask for. None exactly where that does not fit.
 fn command_with(verb: Verb, word: &str) -> Option<Command<'_>>
-    ensures some { IfSome result (λ command. Takes verb word.now command) }
+    ensures some { IfSome result (λ command. Takes verb (word.now ∷ []) command) }
     ensures none { IfNone result (IsOperand verb word.now → ⊥) }
 {
     match verb {
@@ -87,6 +91,17 @@ fn command_with(verb: Verb, word: &str) -> Option<Command<'_>>
             Some(side) => Some(Command::Dump(side)),
             None => None,
         },
+        _ => None,
+    }
+}
+
+/// What a first word alone asks for. None exactly where a word has to stand behind it.
+fn command_alone<'a>(verb: Verb) -> Option<Command<'a>>
+    ensures some { IfSome result (λ command. Takes verb [] command) }
+    ensures none { IfNone result (verb ≡ Verb.Replay → ⊥) }
+{
+    match verb {
+        Verb::Replay => Some(Command::Replay),
         _ => None,
     }
 }
@@ -104,7 +119,7 @@ pub fn command_of(words: &[String]) -> Result<Command<'_>, usize>
         return Err(1);
     };
     let Some((second, more)) = others.split_first() else {
-        return Err(2);
+        return command_alone(verb).ok_or(2);
     };
     let Some(command) = command_with(verb, second.as_str()) else {
         return Err(2);
