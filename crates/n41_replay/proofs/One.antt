@@ -1,7 +1,7 @@
 -- One thing alone is found in a journal.
 use Rattle.std.proofs.Common.{◌≡◌, ◌⊎◌, ◌<◌, ◌+◌, ℕ, List, [], ◌∷◌, Option, Some, None, inl, inr, refl, sym, ap, subst, arith, length}
 use Rattle.std.proofs.lemmas.Bool.{cases_order}
-use Rattle.n41_check.specs.Rules.{Breaks, Clean, IsFirst, IsVerdict, Keeps, rank}
+use Rattle.n41_check.specs.Rules.{Breaks, Clean, IsFirst, IsVerdict, rank}
 use Rattle.n41_check.specs.declared.rules.Rule.{Rule}
 use Rattle.n41_check.specs.declared.rules.Rule.TheVariants.{Slots, Retries, Turns, Causes, Answers}
 use Rattle.n41_journal.specs.Journal.{BeginsWith}
