@@ -1,7 +1,7 @@
 // What a journal tells.
 
 use n41_journal::{Cause, Event, Journal};
-use n41_types::NoMemory;
+use n41_types::{NoMemory, Plan};
 use std::alloc::Global;
 
 /// The xids of the requests that were put on a connection, in their order.
@@ -39,6 +39,33 @@ pub(crate) fn moments(alloc: Global, journal: &Journal) -> Result<Vec<u64>, NoMe
             Event::Ticked { moment } => now = *moment,
             Event::Put { .. } => list.push(now)?,
             _ => {}
+        }
+    }
+    Ok(list)
+}
+
+/// The last moment before each answer.
+pub(crate) fn answered(alloc: Global, journal: &Journal) -> Result<Vec<u64>, NoMemory> {
+    let mut list = Vec::new(alloc);
+    let mut now = 0;
+    for event in journal.as_slice() {
+        match event {
+            Event::Ticked { moment } => now = *moment,
+            Event::Answered { .. } => list.push(now)?,
+            _ => {}
+        }
+    }
+    Ok(list)
+}
+
+/// Where in their directories the READDIRs begin that were put: the cookie, and the verifier that goes with it.
+pub(crate) fn cookies(alloc: Global, journal: &Journal) -> Result<Vec<(u64, [u8; 8])>, NoMemory> {
+    let mut list = Vec::new(alloc);
+    for event in journal.as_slice() {
+        if let Event::Put { request, .. } = event {
+            if let Plan::List { cookie, verf, .. } = &request.plan {
+                list.push((*cookie, *verf))?;
+            }
         }
     }
     Ok(list)

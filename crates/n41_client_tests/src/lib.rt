@@ -10,7 +10,11 @@ mod callers;
 #[cfg(test)]
 mod journals;
 #[cfg(test)]
+mod lists;
+#[cfg(test)]
 mod messages;
+#[cfg(test)]
+mod pauses;
 #[cfg(test)]
 mod posts;
 #[cfg(test)]

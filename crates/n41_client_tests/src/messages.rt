@@ -53,6 +53,10 @@ pub(crate) enum Told {
     Removed(u32, u32, From),
     /// A name in the root got another.
     Renamed(u32, u32),
+    /// Entries of the directory at the root or at a filehandle: from this number on so many, and whether they are the last.
+    Listed(u32, u32, From, (u32, u32, bool)),
+    /// The entries at a filehandle are refused with this status.
+    Unlisted(u32, u32, u32),
     /// So many results, of which none follows.
     Counted(u32),
     SessionGone,
@@ -129,11 +133,41 @@ fn put_change(w: &mut Writer, told: Told) -> Result<(), NoMemory> {
     }
 }
 
+/// An entry with its number as its cookie, the name of an `f` and its number, and no attributes.
+fn put_entry(alloc: Global, w: &mut Writer, number: u32) -> Result<(), NoMemory> {
+    let name = format!(in alloc; "f{number}")?;
+    let Ok(len) = u32::try_from(name.len()) else {
+        return Err(AllocError);
+    };
+    put_words(w, &[1, 0, number, len])?;
+    w.put_fixed(name.as_bytes())?;
+    put_words(w, &[0, 0])
+}
+
+/// What READDIR, operation 26, answers: its verifier, which tells 7 and the first number, then the entries, each behind a one, and then
+/// whether they are the last.
+fn put_listing(alloc: Global, w: &mut Writer, told: Told) -> Result<(), NoMemory> {
+    match told {
+        Told::Listed(slot, turn, from, (first, count, last)) => {
+            put_on(w, slot, turn, 0, 3, &[put_number(from), 0, 26, 0])?;
+            put_words(w, &[7, first])?;
+            for place in 0..count.min(2000) {
+                put_entry(alloc, w, first.saturating_add(place))?;
+            }
+            put_words(w, &[0, u32::from(last)])
+        }
+        Told::Unlisted(slot, turn, status) => {
+            put_on(w, slot, turn, status, 3, &[22, 0, 26, status])
+        }
+        _ => Ok(()),
+    }
+}
+
 /// The result of each operation begins with its number and its status. That of EXCHANGE_ID is client 9, sequence 1, no flags, no protection, and
 /// the names of the server and its scope; of CREATE_SESSION the session, sequence 1, no flags, and the sizes of both directions; of
 /// BIND_CONN_TO_SESSION the session, in the fore direction, without RDMA. GETATTR tells the lease time, attribute 10, or type, size, fileid
 /// and mode, attributes 1, 4, 20 and 33, behind PUTROOTFH.
-fn put_told(w: &mut Writer, told: Told) -> Result<(), NoMemory> {
+fn put_told(alloc: Global, w: &mut Writer, told: Told) -> Result<(), NoMemory> {
     match told {
         Told::Named => put_words(w, &[0, 0, 1, 42, 0, 0, 9, 1, 0, 0, 0, 0, 3, SRV, 3, SRV, 0]),
         Told::Made(slots) => {
@@ -155,6 +189,7 @@ fn put_told(w: &mut Writer, told: Told) -> Result<(), NoMemory> {
         }
         Told::Walked(..) | Told::Lost(..) => put_walk(w, told),
         Told::DirectoryMade(..) | Told::Removed(..) | Told::Renamed(..) => put_change(w, told),
+        Told::Listed(..) | Told::Unlisted(..) => put_listing(alloc, w, told),
         Told::Refused(status) => put_words(w, &[status, 0, 1, 53, status]),
         Told::NoRoot(slot, turn, status) => put_on(w, slot, turn, status, 3, &[24, 0, 9, status]),
         Told::Counted(count) => put_words(w, &[0, 0, count]),
@@ -169,7 +204,7 @@ pub(crate) fn record(alloc: Global, says: Says) -> Result<Bytes, NoMemory> {
     let mut body = Writer::new(alloc);
     // A reply to a call that was run, with the verifier AUTH_NONE.
     put_words(&mut body, &[xid, 1, 0, 0, 0, 0])?;
-    put_told(&mut body, told)?;
+    put_told(alloc, &mut body, told)?;
     let Ok(len) = u32::try_from(body.len()) else {
         return Err(AllocError);
     };

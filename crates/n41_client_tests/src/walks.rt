@@ -1,13 +1,14 @@
 // Walks, and what changes directories, over links that bring whole replies.
 
-use crate::messages::{From, Says, Told, records};
+use crate::messages::{From, Says, Told, record, records};
 use crate::runs::{Outside, are_of, over, see};
 use n41_journal::Cause;
-use n41_types::Bytes;
+use n41_types::{Bytes, NoMemory};
+use std::alloc::Global;
 use std::test::Fail;
 
 /// What a server answers until commands go out.
-const BEGIN: [Says; 4] = [
+pub(crate) const BEGIN: [Says; 4] = [
     (1, Told::Named),
     (2, Told::Made(4)),
     (3, Told::Complete(0, 1)),
@@ -66,25 +67,24 @@ static CASES: [Case; 5] = [
     },
 ];
 
+/// All replies to commands, of which these answer the requests: before them a session is made, and behind them it is given up.
+pub(crate) fn all_around(alloc: Global, replies: &[Says]) -> Result<Vec<Bytes>, NoMemory> {
+    let mut pieces = records(alloc, &BEGIN)?;
+    let mut xid: u32 = 5;
+    for piece in records(alloc, replies)? {
+        pieces.push(piece)?;
+        xid = xid.saturating_add(1);
+    }
+    pieces.push(record(alloc, (xid, Told::SessionGone))?)?;
+    pieces.push(record(alloc, (xid.saturating_add(1), Told::ClientGone))?)?;
+    Ok(pieces)
+}
+
 #[test]
 fn commands_walk_to_their_files(rt: HostRuntime) -> Result<(), Fail> {
     let alloc = rt.alloc();
     for case in &CASES {
-        let mut pieces = records(alloc, &BEGIN)?;
-        let mut xid: u32 = 5;
-        for piece in records(alloc, case.replies)? {
-            pieces.push(piece)?;
-            xid = xid.saturating_add(1);
-        }
-        for piece in records(
-            alloc,
-            &[
-                (xid, Told::SessionGone),
-                (xid.saturating_add(1), Told::ClientGone),
-            ],
-        )? {
-            pieces.push(piece)?;
-        }
+        let pieces = all_around(alloc, case.replies)?;
         let seen = see(&rt, alloc, over(case.script, &[pieces.as_slice()]))?;
         assert_eq!(rt; seen.sink.bytes(), case.text);
         assert_eq!(rt; seen.status, 0);

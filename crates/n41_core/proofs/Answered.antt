@@ -1,19 +1,20 @@
 -- The answer that a command has.
-use Rattle.std.proofs.Common.{◌≡◌, inl, inr, ℕ, ◌<◌, true, false, Option, Some, None, IsSome, slice_get, refl, sym, ◌∙◌, ap, subst, arith}
-use Rattle.std.specs.Prelude.{is_none}
+use Rattle.std.proofs.Common.{◌≡◌, inl, inr, ℕ, ◌<◌, Bool, true, false, Option, Some, None, IsSome, slice_get, if◌then◌else◌, refl, sym, ◌∙◌, ap, subst, arith}
+use Rattle.std.specs.Prelude.{is_none, is_some, nat_le, ◌-◌}
 use Rattle.n41_types.specs.declared.commands.Answer.{Answer}
 use Rattle.n41_types.specs.declared.commands.Answer.TheVariants as says
 use Rattle.n41_types.specs.declared.commands.Command.{Command}
-use Rattle.n41_model.specs.Answers.{breach_at, round_limit}
-use Rattle.n41_model.specs.Kept.{Kept}
-use Rattle.n41_model.specs.Requests.{rounds}
-use Rattle.n41_view.specs.Causes.{CauseIn}
+use Rattle.n41_types.specs.declared.commands.Command.TheVariants as asks
+use Rattle.n41_types.specs.declared.commands.Value.TheVariants as value
+use Rattle.n41_model.specs.Calls.{call, either, pause_given}
+use Rattle.n41_model.specs.Kept.{Kept, MayAnswer}
+use Rattle.n41_view.specs.Causes.{CauseIn, given_in}
 use Rattle.n41_view.specs.Laws.{CausesFromView}
 use Rattle.n41_view.specs.View.{View, view}
 use Rattle.n41_view.specs.declared.tables.Seat.{Seat}
-use Rattle.n41_core.specs.Books.{Book, AnswerFor}
-use Rattle.n41_core.specs.Settled.{IsLight, IsDone}
-use Rattle.n41_core.proofs.Light.{IsEarned, light, earned_only}
+use Rattle.n41_core.specs.Books.{Book, Hands, handed}
+use Rattle.n41_core.specs.Settled.{IsDone, IsUntold}
+use Rattle.n41_core.proofs.Earned.{IsEarned, earned_only}
 use Rattle.n41_core.proofs.Seats.{sits, absent}
 
 asked : (o : Option Command) → is_none o ≡ false → IsSome o
@@ -24,38 +25,71 @@ not_asked : (o : Option Command) → is_none o ≡ true → o ≡ None
 not_asked None e = refl
 not_asked (Some k) e = absurd (cc)
 
+pub none_earned : (o : Option Answer) → is_some o ≡ false → o ≡ None
+none_earned None e = refl
+none_earned (Some a) e = absurd (cc)
+
+one_earned : (o : Option Answer) → is_some o ≡ true → (a : Answer) × (o ≡ Some a)
+one_earned None e = absurd (cc)
+one_earned (Some a) e = (a, refl)
+
+-- ---- what the moments give
+
+-- a pause that is over is done
+over_only : (b : Bool) (a : Answer) → (if b then Some (says.Done value.Paused) else None) ≡ Some a → a ≡ says.Done value.Paused
+over_only true a e = cc
+over_only false a e = absurd (cc)
+
+pause_only : (b m : ℕ) (o : Option Command) (a : Answer) → pause_given b m o ≡ Some a → a ≡ says.Done value.Paused
+pause_only b m (Some (asks.Pause s)) a e = over_only (nat_le s (m - b)) a e
+pause_only b m (Some k) a e = absurd (cc)
+pause_only b m None a e = absurd (cc)
+
+-- where no reply gave an answer, what the moments give is one by a cause
+pub pause_cause : (w : View) (s : Seat) (a : Answer) → s.earned ≡ None → pause_given s.began_on w.facts.moment s.command ≡ Some a → CauseIn w s a
+pause_cause w s a e h =
+    let q = pause_only s.began_on w.facts.moment s.command a h in
+    let g : given_in w.facts.moment s ≡ Some a = ap (λ (o : Option Answer). either o (pause_given s.began_on w.facts.moment s.command)) e ∙ h in
+    subst (λ (x : Answer). CauseIn w s x) (sym q) (g ∙ ap (λ (x : Answer). Some x) q)
+
+-- ---- answers
+
 earned_cause : (w : View) (s : Seat) (a : Answer) → IsEarned a → s.earned ≡ Some a → CauseIn w s a
-earned_cause w s (says.Done x) h e = e
-earned_cause w s (says.Refused t) h e = e
+earned_cause w s (says.Done x) h e = ap (λ (o : Option Answer). either o (pause_given s.began_on w.facts.moment s.command)) e
+earned_cause w s (says.Refused t) h e = ap (λ (o : Option Answer). either o (pause_given s.began_on w.facts.moment s.command)) e
 earned_cause w s a h e = absurd h
 
-end_light : (w : View) (s : Seat) (a : Answer) → s.earned ≡ None → CauseIn w s a → IsLight a
-end_light w s (says.Done x) e h = absurd (let z : Some (says.Done x) ≡ None = sym h ∙ e in cc)
-end_light w s a e h = tt
-
-answer_with : (b : Book) (c : ℕ) (s : Seat) (a : Answer) → CausesFromView → Kept b.setup b.events → Some s ≡ slice_get (view b.setup.callers b.events).seats c → is_none s.command ≡ false → CauseIn (view b.setup.callers b.events) s a → IsLight a → AnswerFor b c s.number a
-answer_with b c s a law k h q w l =
+may_answer : (b : Book) (c : ℕ) (s : Seat) (a : Answer) → CausesFromView → Kept b.setup b.events → Some s ≡ slice_get (view b.setup.callers b.events).seats c → is_none s.command ≡ false → CauseIn (view b.setup.callers b.events) s a → MayAnswer b.setup b.events c s.number a
+may_answer b c s a law k h q w =
     let i = sits b.setup.callers b.events c s h in
     record {
-      may = record {
-        caller = i.within;
-        asked = subst (λ (t : Seat). IsSome t.command) i.is_seat (asked s.command q);
-        number_is = ap (λ (t : Seat). t.number) i.is_seat;
-        cause = (law b.setup b.events c s a k (sym h)).0 w;
-      };
-      light = l;
+      caller = i.within;
+      asked = subst (λ (t : Seat). IsSome t.command) i.is_seat (asked s.command q);
+      number_is = ap (λ (t : Seat). t.number) i.is_seat;
+      cause = (law b.setup b.events c s a k (sym h)).0 w;
     }
 
 -- the answer that the command has earned
-pub earned_answer : (b : Book) (c : ℕ) (s : Seat) (a : Answer) → CausesFromView → Kept b.setup b.events → Some s ≡ slice_get (view b.setup.callers b.events).seats c → is_none s.command ≡ false → s.earned ≡ Some a → AnswerFor b c s.number a
-earned_answer b c s a law k h q e =
+pub earned_hands : (b : Book) (c : ℕ) (s : Seat) → CausesFromView → Kept b.setup b.events → Some s ≡ slice_get (view b.setup.callers b.events).seats c → is_none s.command ≡ false → is_some s.earned ≡ true → (a : Answer) × Hands b c s.number None a
+earned_hands b c s law k h q e =
     let i = sits b.setup.callers b.events c s h in
-    let o : IsEarned a = earned_only b.setup.callers b.events c a (sym (ap (λ (t : Seat). t.earned) i.is_seat) ∙ e) in
-    answer_with b c s a law k h q (earned_cause (view b.setup.callers b.events) s a o e) (light a o)
+    let x = one_earned s.earned e in
+    let f : (call b.setup.callers b.events c).earned ≡ Some x.0 = sym (ap (λ (t : Seat). t.earned) i.is_seat) ∙ x.1 in
+    (x.0, record { is_handed = f; may = may_answer b c s x.0 law k h q (earned_cause (view b.setup.callers b.events) s x.0 (earned_only b.setup.callers b.events c x.0 f) x.1) })
 
--- the answer of a command for which no reply is waited for
-pub end_answer : (b : Book) (c : ℕ) (s : Seat) (a : Answer) → CausesFromView → Kept b.setup b.events → Some s ≡ slice_get (view b.setup.callers b.events).seats c → is_none s.command ≡ false → s.earned ≡ None → CauseIn (view b.setup.callers b.events) s a → AnswerFor b c s.number a
-end_answer b c s a law k h q e w = answer_with b c s a law k h q w (end_light (view b.setup.callers b.events) s a e w)
+-- the answer that no reply gave
+pub late_hands : (b : Book) (c : ℕ) (s : Seat) (a : Answer) → CausesFromView → Kept b.setup b.events → Some s ≡ slice_get (view b.setup.callers b.events).seats c → is_none s.command ≡ false → CauseIn (view b.setup.callers b.events) s a → (x : Answer) × Hands b c s.number (Some a) x
+late_hands b c s a law k h q w = (a, record { is_handed = refl; may = may_answer b c s a law k h q w })
+
+-- the answer that there is
+abbrev pub the_answer : Option Answer → Answer
+the_answer None = says.NotOpen
+the_answer (Some a) = a
+
+pub hands_the : (b : Book) (c n : ℕ) (late : Option Answer) → (a : Answer) × Hands b c n late a → Hands b c n late (the_answer (handed b c late))
+hands_the b c n late h = subst (λ (x : Answer). Hands b c n late x) (sym (ap the_answer h.1.is_handed)) h.1
+
+-- ---- no answer
 
 pub is_there : (b : Book) (c : ℕ) → c < b.setup.callers → None ≡ slice_get (view b.setup.callers b.events).seats c → IsDone b.setup.callers b.events c
 is_there b c l h = let m = absent b.setup.callers b.events c h in absurd (omega (arith, l, m))
@@ -65,7 +99,11 @@ done_idle b c s h q =
     let i = sits b.setup.callers b.events c s h in
     inl (sym (ap (λ (t : Seat). t.command) i.is_seat) ∙ not_asked s.command q)
 
-pub done_waits : (b : Book) (c : ℕ) (s : Seat) → Some s ≡ slice_get (view b.setup.callers b.events).seats c → s.earned ≡ None → breach_at b.events ≡ None → rounds b.events < round_limit → IsDone b.setup.callers b.events c
-done_waits b c s h e g l =
+pub done_waits : (b : Book) (c : ℕ) (s : Seat) → Some s ≡ slice_get (view b.setup.callers b.events).seats c → s.earned ≡ None → IsUntold (view b.setup.callers b.events) s → IsDone b.setup.callers b.events c
+done_waits b c s h e u =
     let i = sits b.setup.callers b.events c s h in
-    inr (record { waits = record { unearned = sym (ap (λ (t : Seat). t.earned) i.is_seat) ∙ e; unbroken = g }; reached = l })
+    inr (record {
+      waits = record { unearned = sym (ap (λ (t : Seat). t.earned) i.is_seat) ∙ e; unbroken = u.unbroken };
+      ungiven = sym (ap (λ (t : Seat). given_in (view b.setup.callers b.events).facts.moment t) i.is_seat) ∙ u.ungiven;
+      reached = u.reached;
+    })

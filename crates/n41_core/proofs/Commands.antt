@@ -1,11 +1,11 @@
 -- Whether a command of a caller may begin.
-use Rattle.std.proofs.Common.{◌≡◌, ◌⊎◌, inl, inr, ℕ, suc, ◌<◌, ◌≤◌, ◌&&◌, Bool, true, false, List, Option, Some, None, Result, Ok, Err, slice_get, length, get_or, if◌then◌else◌, refl, sym, ◌∙◌, ap, subst, arith, ◌+◌, zero}
+use Rattle.std.proofs.Common.{◌≡◌, ℕ, suc, ◌<◌, ◌&&◌, Bool, true, false, List, Option, Some, None, Result, Ok, Err, slice_get, length, get_or, if◌then◌else◌, refl, sym, ◌∙◌, ap, arith, ◌+◌, zero}
 use Rattle.std.proofs.lemmas.Bool.Decides.{nat_tests}
 use Rattle.std.specs.Prelude.{is_none, is_some, nat_lt, nat_le, OnOk}
 use Rattle.n41_journal.specs.declared.events.Event.{Event}
 use Rattle.n41_model.specs.Requests.{quit}
 use Rattle.n41_model.specs.Calls.{command, number}
-use Rattle.n41_view.specs.View.{view, seat_of}
+use Rattle.n41_view.specs.View.{view}
 use Rattle.n41_view.specs.declared.tables.Seat.{Seat}
 use Rattle.n41_answers.specs.Answers.{lists, lists_from}
 use Rattle.n41_core.specs.Books.{Book, HasSpare}
@@ -13,7 +13,7 @@ use Rattle.n41_core.specs.State.{State}
 use Rattle.n41_core.specs.Causes.{post_fault}
 use Rattle.n41_core.specs.declared.faults.PostFault.{PostFault}
 use Rattle.n41_core.specs.declared.faults.PostFault.TheVariants as post
-use Rattle.n41_core.proofs.Seats.{Sits, sits, absent}
+use Rattle.n41_core.proofs.Seats.{sits, absent}
 
 first_test : (a b d : Bool) (x y z w : Option PostFault) → a ≡ false → (if a then x else if b then y else if d then z else w) ≡ (if b then y else if d then z else w)
 first_test true b d x y z w e = absurd (cc)

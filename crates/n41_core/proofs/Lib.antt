@@ -1,5 +1,5 @@
 pub mod Seats
-pub mod Light
+pub mod Earned
 pub mod Settling
 pub mod Rounds
 pub mod Answered

@@ -45,7 +45,10 @@ answered_self n js c k a = let t : (c == c) ≡ true = grind (arith, nat_tests) 
 
 pub answered_other : (n : ℕ) (js : List Event) (c k : ℕ) (a : Answer) (d : ℕ) → IsDone n js d → IsDone n (Answered c k a ∷ js) d
 answered_other n js c k a d (inl e) = inl (none_either (c == d) (command js d) e)
-answered_other n js c k a d (inr g) = inr (record { waits = record { unearned = g.waits.unearned; unbroken = g.waits.unbroken }; reached = g.reached })
+answered_other n js c k a d (inr g) = at_test (c == d) refl where
+  at_test : (b : Bool) → (c == d) ≡ b → IsDone n (Answered c k a ∷ js) d
+  at_test true t = inl (rw t refl)
+  at_test false t = inr (record { waits = record { unearned = rw t g.waits.unearned; unbroken = g.waits.unbroken }; ungiven = rw t g.ungiven; reached = g.reached })
 
 -- ---- other events
 

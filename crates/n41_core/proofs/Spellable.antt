@@ -15,8 +15,9 @@ use Rattle.n41_model.specs.declared.words.KnownClient.{KnownClient}
 use Rattle.n41_model.specs.declared.words.Phase.{Phase}
 use Rattle.n41_model.specs.declared.words.Phase.TheVariants.{Binding, Session, ClientId, Completing}
 use Rattle.n41_model.specs.declared.words.Setup.{Setup}
+use Rattle.n41_model.specs.declared.words.Listed.{Listed}
 use Rattle.n41_model.specs.declared.words.Way.{Way}
-use Rattle.n41_model.specs.Calls.{command, call, ahead, goal, last_of, make_dir, remove, rename, next_plan, plan_next, walk_most, walk_or}
+use Rattle.n41_model.specs.Calls.{command, call, ahead, goal, last_of, list, list_size, make_dir, remove, rename, next_plan, plan_next, walk_most, walk_or}
 use Rattle.n41_model.specs.Due.{due, only_if, with_plan, bare_with, bare_due, on_free, on_free_slot, phase_plan, step_plan, own_plan, own_plan_in, destroy_plan, destroy_in, bind_in, create_in, is_open, may_retry, may_step, may_own, may_begin, may_destroy, item_due}
 use Rattle.n41_model.specs.Kept.{Kept}
 use Rattle.n41_model.specs.Replies.{is_final}
@@ -118,16 +119,21 @@ rename_is (Some d) None at new = tt
 rename_is (Some d) (Some m) at None = tt
 rename_is (Some d) (Some m) at (Some n) = (tt, tt)
 
-goal_is : (k : Command) (w : Way) → SomePlan (goal k w)
-goal_is (asks.Stat p) w = (tt, tt)
-goal_is (asks.MakeDir p) w = make_is w.at (last_of p)
-goal_is (asks.Remove p) w = remove_is w.at (last_of p)
-goal_is (asks.Rename p q) w = rename_is w.old (last_of p) w.at (last_of q)
-goal_is k w = tt
+list_is : (size : ℕ) (at : Place) (o : Option Listed) → SomePlan (list size at o)
+list_is size at None = tt
+list_is size at (Some l) = (tt, tt)
 
-next_is : (m : Option SessionMade) (o : Option Command) (w : Way) → SomePlan (next_plan (walk_most m) o w)
+goal_is : (size : ℕ) (k : Command) (w : Way) → SomePlan (goal size k w)
+goal_is size (asks.Stat p) w = (tt, tt)
+goal_is size (asks.List p) w = list_is size w.at w.listed
+goal_is size (asks.MakeDir p) w = make_is w.at (last_of p)
+goal_is size (asks.Remove p) w = remove_is w.at (last_of p)
+goal_is size (asks.Rename p q) w = rename_is w.old (last_of p) w.at (last_of q)
+goal_is size k w = tt
+
+next_is : (m : Option SessionMade) (o : Option Command) (w : Way) → SomePlan (next_plan m o w)
 next_is m None w = tt
-next_is m (Some k) w = walk_is (walk_most m) w.at (ahead k w) (goal k w) (most_small m) (goal_is k w)
+next_is m (Some k) w = walk_is (walk_most m) w.at (ahead k w) (goal (list_size m) k w) (most_small m) (goal_is (list_size m) k w)
 
 first_is : (rs : List Request) → Each rs → Some1 (first rs)
 first_is [] h = tt

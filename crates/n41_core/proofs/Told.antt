@@ -1,5 +1,5 @@
 -- What the tables tell is what the journal tells.
-use Rattle.std.proofs.Common.{◌≡◌, ◌⊎◌, ◌↔◌, inl, inr, ℕ, true, false, List, Option, Some, None, Result, Ok, Err, IsSome, refl, sym, ◌∙◌, ap, subst}
+use Rattle.std.proofs.Common.{◌≡◌, inl, inr, ℕ, true, false, List, Option, Some, None, Result, Ok, Err, IsSome, refl, sym, ◌∙◌, ap, subst}
 use Rattle.std.specs.Prelude.{IfOk, IfSome, IfNone, option_map}
 use Rattle.n41_types.specs.declared.plans.Request.{Request}
 use Rattle.n41_results.specs.declared.replies.Reply.{Reply}
@@ -10,15 +10,15 @@ use Rattle.n41_journal.specs.declared.events.Event.{Event}
 use Rattle.n41_model.specs.declared.words.Item.{Item}
 use Rattle.n41_model.specs.declared.words.Setup.{Setup}
 use Rattle.n41_model.specs.Due.{due, NothingDue}
-use Rattle.n41_model.specs.Kept.{Kept, IsOld, IsAwaited}
+use Rattle.n41_model.specs.Kept.{Kept, IsOld}
 use Rattle.n41_view.specs.Causes.{is_old_in, awaited_in}
 use Rattle.n41_view.specs.Due.{due_in}
 use Rattle.n41_view.specs.Laws.{DueFromView, EndFromView, OldFromView, AwaitedFromView}
 use Rattle.n41_view.specs.View.{View, view}
 use Rattle.n41_due.specs.Order.{IsNext}
-use Rattle.n41_due.specs.Wants.{WantIn}
-use Rattle.n41_due.specs.declared.wants.Want.{Want}
-use Rattle.n41_due.specs.declared.wants.Want.TheVariants as want
+use Rattle.n41_wants.specs.Wants.{WantIn}
+use Rattle.n41_wants.specs.declared.wants.Want.{Want}
+use Rattle.n41_wants.specs.declared.wants.Want.TheVariants as want
 use Rattle.n41_core.specs.Causes.{WantCause, ShapeCause, Unawaited, IsReplyTo}
 
 -- ---- what is due

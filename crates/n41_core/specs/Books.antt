@@ -1,10 +1,10 @@
 -- What contracts see of a journal with its tables and the places of its answers.
-use Rattle.std.specs.Prelude.{◌≡◌, ℕ, suc, ◌+◌, ◌-◌, ◌<◌, ◌≤◌, List, ◌∷◌, Option, Some, None, slice_index}
+use Rattle.std.specs.Prelude.{◌≡◌, ℕ, suc, ◌+◌, ◌-◌, ◌<◌, ◌≤◌, List, ◌∷◌, Option, Some, slice_index}
 use Rattle.n41_types.specs.declared.commands.Answer.{Answer}
 use Rattle.n41_journal.specs.declared.events.Event.{Event}
 use Rattle.n41_journal.specs.declared.events.Event.TheVariants.{Answered}
 use Rattle.n41_model.specs.declared.words.Setup.{Setup}
-use Rattle.n41_model.specs.Calls.{command, number}
+use Rattle.n41_model.specs.Calls.{call, either}
 use Rattle.n41_model.specs.Kept.{MayAnswer}
 use Rattle.n41_answers.specs.Index.{spent}
 use Rattle.n41_core.specs.Settled.{IsDone}
@@ -32,9 +32,14 @@ adds b e = record { setup = b.setup; events = e ∷ b.events; room = b.room - 1;
 abbrev pub answers_with : Book → ℕ → ℕ → Answer → Book
 answers_with b c n a = record { setup = b.setup; events = Answered c n a ∷ b.events; room = b.room - 1; spare = spent b.spare c }
 
--- an answer that the caller's command may have
-abbrev pub AnswerFor : Book → ℕ → ℕ → Answer → Type 0
-AnswerFor b c n a = MayAnswer b.setup b.events c n a
+-- the answer that is handed over, or where none is, the one that the last reply to the caller's command gave
+abbrev pub handed : Book → ℕ → Option Answer → Option Answer
+handed b c late = either late (call b.setup.callers b.events c).earned
+
+-- it is this one, and the command of this number may have it
+pub record Hands (b : Book) (c n : ℕ) (late : Option Answer) (a : Answer) : Type 0 where
+  pub is_handed : handed b c late ≡ Some a
+  pub may : MayAnswer b.setup b.events c n a
 
 -- the caller's command was answered, or goes on
 pub record Settles (old new : Book) (c : ℕ) (xs : List Event) : Type 0 where

@@ -17,9 +17,9 @@ use Rattle.n41_model.specs.Calls.{command, number}
 use Rattle.n41_model.specs.Due.{due, NothingDue, has_ended}
 use Rattle.n41_model.specs.Kept.{IsAwaited}
 use Rattle.n41_view.specs.View.{view}
-use Rattle.n41_due.specs.Wants.{awaits_in, wait_in}
-use Rattle.n41_due.specs.declared.wants.Want.{Want}
-use Rattle.n41_due.specs.declared.wants.Want.TheVariants as want
+use Rattle.n41_wants.specs.Wants.{awaits_in, wait_in}
+use Rattle.n41_wants.specs.declared.wants.Want.{Want}
+use Rattle.n41_wants.specs.declared.wants.Want.TheVariants as want
 use Rattle.n41_core.specs.State.{State, appends}
 use Rattle.n41_core.specs.declared.faults.PostFault.{PostFault}
 use Rattle.n41_core.specs.declared.faults.PostFault.TheVariants as post

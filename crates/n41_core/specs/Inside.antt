@@ -1,5 +1,5 @@
 -- What holds inside a client.
-use Rattle.std.specs.Prelude.{◌≡◌, ◌≢◌, ◌<◌, ◌≤◌, None}
+use Rattle.std.specs.Prelude.{◌≢◌, ◌<◌, None}
 use Rattle.n41_model.specs.Requests.{standing}
 use Rattle.n41_core.specs.Settled.{IsSettled}
 use Rattle.n41_core.specs.declared.client.Core.TheInside.{Inside}

@@ -4,6 +4,9 @@ use Rattle.n41_journal.specs.declared.events.Event.{Event}
 use Rattle.n41_model.specs.Requests.{rounds}
 use Rattle.n41_model.specs.Calls.{command, call, given}
 use Rattle.n41_model.specs.Answers.{breach_at, round_limit}
+use Rattle.n41_view.specs.Causes.{given_in}
+use Rattle.n41_view.specs.View.{View}
+use Rattle.n41_view.specs.declared.tables.Seat.{Seat}
 
 -- the last reply to the caller's command gives no answer, and no reply broke the rules
 pub record Waits (n : ℕ) (js : List Event) (c : ℕ) : Type 0 where
@@ -27,3 +30,9 @@ IsDone n js c = (command js c ≡ None) ⊎ GoesOn n js c
 -- every command that is unanswered goes on
 abbrev pub IsDecided : ℕ → List Event → Type 0
 IsDecided n js = (c : ℕ) → c < n → IsDone n js c
+
+-- by the tables, the command at this seat goes on
+pub record IsUntold (w : View) (s : Seat) : Type 0 where
+  pub ungiven : given_in w.facts.moment s ≡ None
+  pub unbroken : w.facts.breach_at ≡ None
+  pub reached : w.facts.rounds < round_limit

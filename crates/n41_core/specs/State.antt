@@ -11,7 +11,7 @@ use Rattle.n41_journal.specs.declared.events.Event.TheVariants.{Began, Put, Took
 use Rattle.n41_model.specs.declared.words.Item.{Item}
 use Rattle.n41_model.specs.declared.words.Setup.{Setup}
 use Rattle.n41_model.specs.Requests.{standing, puts, moment}
-use Rattle.n41_model.specs.Calls.{command, number}
+use Rattle.n41_model.specs.Calls.{number}
 use Rattle.n41_model.specs.Answers.{breach_at}
 use Rattle.n41_model.specs.Due.{due}
 use Rattle.n41_model.specs.Kept.{MayTake}

@@ -1,64 +1,63 @@
-ghost use Rattle.std.specs.Prelude.{◌≡◌, ◌<◌, ℕ, List, IfSome, IfNone, slice_index};
+ghost use Rattle.std.specs.Prelude.{◌≡◌, ◌<◌, ℕ, List, None, IfSome, IfNone, slice_index};
+ghost use Rattle.n41_types.specs.declared.commands.Answer.{Answer as AnswerValue};
 ghost use Rattle.n41_journal.specs.declared.events.Event.{Event};
-ghost use Rattle.n41_core.specs.Books.{HasSpare, AnswerFor, Settles};
-ghost use Rattle.n41_core.specs.Settled.{IsLight, IsDone, IsDecided};
+ghost use Rattle.n41_model.specs.Calls.{pause_given};
+ghost use Rattle.n41_view.specs.Causes.{CauseIn};
+ghost use Rattle.n41_view.specs.View.{view};
+ghost use Rattle.n41_core.specs.Books.{HasSpare, Hands, Settles};
+ghost use Rattle.n41_core.specs.Settled.{IsDone, IsDecided, IsUntold};
 ghost use Rattle.n41_core.specs.State.{AddsAnswers};
 
 use crate::books::Books;
-use n41_types::{Answer, Value};
+use n41_types::{Answer, Command, Value};
 use n41_view::{Seat, the_view_tells_causes};
 
-/// The same answer. No answer that a reply gives now holds memory.
-pub(crate) fn copied(answer: &Answer) -> Answer
-    requires { IsLight answer.now }
-    ensures { result ≡ answer.now }
+/// What the moment gives to a command that began then: a pause is done once its seconds have passed.
+fn pause_given(began_on: u64, moment: u64, command: &Option<Command>) -> Option<Answer>
+    ensures { result ≡ pause_given began_on moment command.now }
 {
-    match answer {
-        Answer::Done(
-            Value::Stat {
-                kind,
-                size,
-                fileid,
-                mode,
-            },
-        ) => Answer::Done(Value::Stat {
-            kind: *kind,
-            size: *size,
-            fileid: *fileid,
-            mode: *mode,
-        }),
-        Answer::Done(Value::Made) => Answer::Done(Value::Made),
-        Answer::Done(Value::Removed) => Answer::Done(Value::Removed),
-        Answer::Done(Value::Renamed) => Answer::Done(Value::Renamed),
-        Answer::Done(_) => Answer::NotOpen,
-        Answer::Refused(status) => Answer::Refused(*status),
-        Answer::Unknown => Answer::Unknown,
-        Answer::StateLost(loss) => Answer::StateLost(*loss),
-        Answer::Unreachable(number) => Answer::Unreachable(*number),
-        Answer::NotOpen => Answer::NotOpen,
-        Answer::Breach(place) => Answer::Breach(*place),
+    let Some(Command::Pause { seconds }) = command else {
+        return None;
+    };
+    if u64::from(*seconds) <= moment.saturating_sub(began_on) {
+        Some(Answer::Done(Value::Paused))
+    } else {
+        None
     }
 }
 
-/// The answer that the caller's unanswered command has by now, with the command's number. None where all is answered or goes on.
-fn answer_due(books: &Books, caller: u32) -> Option<(u64, Answer)>
+/// The answer that an unanswered command has by now to which no reply has given one. None where it goes on.
+fn late_answer(books: &Books, seat: &Seat) -> Option<Answer>
+    requires { seat.now.earned ≡ None }
+    ensures some { IfSome result (λ a. CauseIn (view books.now.setup.callers books.now.events) seat.now a) }
+    ensures none { IfNone result (IsUntold (view books.now.setup.callers books.now.events) seat.now) }
+{
+    let facts = books.facts();
+    match pause_given(seat.began_on, facts.moment, &seat.command) {
+        Some(answer) => Some(answer),
+        None => books.look(&facts).answer_at_end(seat),
+    }
+}
+
+/// The number of the caller's unanswered command that has its answer by now, and this answer where it is not the one that the last reply to it
+/// gave. None where all is answered or goes on.
+fn answer_due(books: &Books, caller: u32) -> Option<(u64, Option<Answer>)>
     requires { caller < books.now.setup.callers }
-    ensures some { IfSome result (λ r. AnswerFor books.now caller r.0 r.1) }
+    ensures some { IfSome result (λ r. (a : AnswerValue) × Hands books.now caller r.0 r.1 a) }
     ensures none { IfNone result (IsDone books.now.setup.callers books.now.events caller) }
 {
     the_view_tells_causes();
     books.kept();
-    let facts = books.facts();
     let seat = books.seat(caller)?;
     if seat.command.is_none() {
         return None;
     }
-    match &seat.earned {
-        Some(answer) => Some((seat.number, copied(answer))),
-        None => match books.look(&facts).answer_at_end(seat) {
-            Some(answer) => Some((seat.number, answer)),
-            None => None,
-        },
+    if seat.earned.is_some() {
+        return Some((seat.number, None));
+    }
+    match late_answer(books, seat) {
+        Some(answer) => Some((seat.number, Some(answer))),
+        None => None,
     }
 }
 
@@ -71,7 +70,7 @@ fn settle_one(books: &mut Books, caller: u32)
 {
     match answer_due(books, caller) {
         None => {}
-        Some((number, answer)) => books.answer(caller, number, answer),
+        Some((number, late)) => books.answer(caller, number, late),
     }
 }
 

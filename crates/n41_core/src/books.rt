@@ -3,9 +3,8 @@ ghost use Rattle.n41_model.specs.Kept.{Kept, May};
 ghost use Rattle.n41_view.specs.View.{view, facts_of};
 ghost use Rattle.n41_types.specs.declared.commands.Answer.{Answer as AnswerValue};
 ghost use Rattle.n41_answers.specs.Answers.{HasAnswer};
-ghost use Rattle.n41_core.specs.Books.{IsNoAnswer, HasSpare, AnswerFor, adds, answers_with};
+ghost use Rattle.n41_core.specs.Books.{IsNoAnswer, HasSpare, Hands, adds, answers_with};
 
-use crate::answering::copied;
 use crate::look::look;
 use n41_answers::{Answers, answer_of, the_lists_step};
 use n41_due::Lookup;
@@ -163,27 +162,17 @@ impl Books {
         self.tied.add(event, copy);
     }
 
-    /// Adds an answer.
-    pub(crate) fn answer(&mut self, caller: u32, number: u64, answer: Answer)
+    /// Adds an answer to the caller's command of this number: the one that is handed over, or else the one that the last reply to it gave, which
+    /// the tables give up.
+    pub(crate) fn answer(&mut self, caller: u32, number: u64, late: Option<Answer>)
+        ghost given: { AnswerValue }
         requires room { 0 < self.old.room }
         requires spare { 0 < slice_index self.old.spare caller }
-        requires may { AnswerFor self.old caller number answer }
-        ensures { self.new ≡ answers_with self.old caller number answer }
+        requires hands { Hands self.old caller number late given }
+        ensures { self.new ≡ answers_with self.old caller number given }
     {
         the_lists_step();
-        let copy = copied(&answer);
         self.answers.note(caller, next_place(self.tied.journal()));
-        self.tied.add(
-            Event::Answered {
-                caller,
-                number,
-                answer,
-            },
-            EventCopy::plain(Event::Answered {
-                caller,
-                number,
-                answer: copy,
-            }),
-        );
+        self.tied.answer(caller, number, late);
     }
 }

@@ -11,11 +11,11 @@ ghost use Rattle.n41_core.specs.Settled.{IsSettled};
 
 use crate::books::Books;
 use crate::faults::Ticket;
-use n41_due::Want;
 use n41_journal::Journal;
 use n41_model::{Phase, Setup};
 use n41_types::{Answer, NoMemory};
 use n41_view::{the_view_tells_the_end, the_view_tells_what_is_due, the_view_tells_what_is_old};
+use n41_wants::{Want, wanted};
 use std::alloc::Global;
 use std::marker::Model;
 
@@ -150,6 +150,6 @@ impl Core {
         the_view_tells_the_end();
         self.books.kept();
         let facts = self.books.facts();
-        self.books.look(&facts).wants()
+        wanted(&self.books.look(&facts))
     }
 }

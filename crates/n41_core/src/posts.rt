@@ -1,5 +1,6 @@
 ghost use Rattle.std.specs.Prelude.{◌≡◌, ◌⊎◌, ◌≤◌, ◌<◌, suc, true, Some, None, IfOk, IfErr, OnOk, OnErr};
 ghost use Rattle.n41_model.specs.Calls.{number as last_number, is_built};
+ghost use Rattle.n41_model.specs.Requests.{moment as last_moment};
 ghost use Rattle.n41_core.specs.Books.{HasSpare};
 ghost use Rattle.n41_core.specs.State.{State, posted};
 ghost use Rattle.n41_core.specs.Causes.{post_fault};
@@ -10,7 +11,8 @@ use crate::client::Core;
 use crate::faults::{PostFault, Ticket};
 use n41_journal::Event;
 use n41_tables::EventCopy;
-use n41_types::{Answer, Command};
+use n41_types::{Answer, Command, NoMemory};
+use std::alloc::Global;
 
 /// The number of the caller's next command, where it may begin one.
 fn next_number(books: &Books, caller: u32) -> Result<u64, PostFault>
@@ -50,18 +52,25 @@ fn ready(books: &mut Books, caller: u32) -> Result<u64, PostFault>
 }
 
 /// Notes that a command began, and answers it where a reply broke the rules before.
-fn note_command(books: &mut Books, caller: u32, number: u64, command: Command, copy: Command)
+fn note_command(
+    books: &mut Books,
+    caller: u32,
+    number: u64,
+    command: Command,
+    moment: u64,
+    copy: EventCopy,
+)
     requires room { 3 ≤ books.old.room }
     requires spare { HasSpare 0 books.old }
     requires built { is_built command ≡ true }
-    requires same { copy ≡ command }
     requires number { number ≡ suc (last_number books.old.events caller) }
+    requires moment { moment ≡ last_moment books.old.events }
+    requires same { copy ≡ Event.Began caller number command moment }
     requires free { post_fault (record { setup = books.old.setup; events = books.old.events }) caller ≡ None }
     ensures posted { record { setup = books.new.setup; events = books.new.events } ≡ posted (record { setup = books.old.setup; events = books.old.events }) caller command }
     ensures room { 0 < books.new.room }
 {
-    let facts = books.facts();
-    let moment = facts.moment;
+    let breach = books.facts().breach_at;
     books.add(
         Event::Began {
             caller,
@@ -69,19 +78,41 @@ fn note_command(books: &mut Books, caller: u32, number: u64, command: Command, c
             command,
             moment,
         },
-        EventCopy::plain(Event::Began {
-            caller,
-            number,
-            command: copy,
-            moment,
-        }),
+        copy,
     );
-    if let Some(place) = facts.breach_at {
-        books.answer(caller, number, Answer::Breach(place));
+    if let Some(place) = breach {
+        books.answer(caller, number, Some(Answer::Breach(place)));
     }
 }
 
-fn begin(books: &mut Books, caller: u32, number: u64, command: Command) -> Result<Ticket, PostFault>
+/// A copy of the event with which a command begins, for the tables.
+fn copy_of(
+    alloc: Global,
+    caller: u32,
+    number: u64,
+    command: &Command,
+    moment: u64,
+) -> Result<EventCopy, NoMemory>
+    ensures { IfOk result (λ copy. copy ≡ Event.Began caller number command.now moment) }
+{
+    EventCopy::of(
+        alloc,
+        Event::Began {
+            caller,
+            number,
+            command: command.clone()?,
+            moment,
+        },
+    )
+}
+
+fn begin(
+    alloc: Global,
+    books: &mut Books,
+    caller: u32,
+    number: u64,
+    command: Command,
+) -> Result<Ticket, PostFault>
     requires room { 3 ≤ books.old.room }
     requires spare { HasSpare 0 books.old }
     requires built { is_built command ≡ true }
@@ -93,9 +124,10 @@ fn begin(books: &mut Books, caller: u32, number: u64, command: Command) -> Resul
     ensures same { OnErr result (books.new ≡ books.old) }
     ensures room { 0 < books.new.room }
 {
-    match command.clone() {
+    let moment = books.facts().moment;
+    match copy_of(alloc, caller, number, &command, moment) {
         Ok(copy) => {
-            note_command(books, caller, number, command, copy);
+            note_command(books, caller, number, command, moment, copy);
             Ok(Ticket { caller, number })
         }
         Err(_) => {
@@ -117,7 +149,7 @@ impl Core {
         ensures err { OnErr result (self.new ≡ self.old) }
     {
         match ready(&mut self.books, caller) {
-            Ok(number) => begin(&mut self.books, caller, number, command),
+            Ok(number) => begin(self.alloc, &mut self.books, caller, number, command),
             Err(fault) => {
                 drop(command);
                 Err(fault)

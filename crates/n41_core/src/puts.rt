@@ -9,7 +9,7 @@ use crate::books::Books;
 use crate::client::Core;
 use crate::packet::Packet;
 use n41_journal::Event;
-use n41_requests::spell;
+use n41_spell::spell;
 use n41_tables::EventCopy;
 use n41_types::{NoMemory, Request};
 use n41_view::the_view_tells_what_is_due;
@@ -33,6 +33,7 @@ impl Core {
         ensures some { IfOk result (λ o. IfSome o (λ p. (i : ItemValue) × HasPut self.old self.new conn p i)) }
         // What is put is short: every session takes requests of 4,096 bytes.
         ensures short { IfOk result (λ o. IfSome o (λ p. length (spelled p.request) ≤ 4000)) }
+        ensures spellable { IfOk result (λ o. IfSome o (λ p. IsSpellable p.request)) }
         ensures none { IfOk result (λ o. IfNone o ((self.new ≡ self.old) × ((standing self.old.events ≢ Some conn) ⊎ NothingDue self.old.setup self.old.events))) }
         ensures err { OnErr result (self.new ≡ self.old) }
     {

@@ -18,6 +18,7 @@ use n41_results::{Heard, Incoming, Reply, Shape};
 use n41_tables::EventCopy;
 use n41_types::NoMemory;
 use n41_view::the_view_tells_what_is_awaited;
+use std::alloc::Global;
 
 /// The first thing in which a reply is none to what was asked. None where it answers a request that waits for it.
 fn misfit(books: &Books, reply: &Reply) -> Option<Shape>
@@ -37,7 +38,13 @@ fn misfit(books: &Books, reply: &Reply) -> Option<Shape>
 }
 
 /// Takes a reply, and answers each command that has its answer then.
-fn take(books: &mut Books, conn: u64, place: u64, reply: Reply) -> Result<(), NoMemory>
+fn take(
+    alloc: Global,
+    books: &mut Books,
+    conn: u64,
+    place: u64,
+    reply: Reply,
+) -> Result<(), NoMemory>
     requires { May books.old.setup books.old.events (EventValue.Took conn place reply) }
     ensures setup { books.new.setup ≡ books.old.setup }
     ensures added { OnOk result ((xs : List EventValue) × AddsAnswers (EventValue.Took conn place reply ∷ books.old.events) books.new.events xs) }
@@ -46,11 +53,14 @@ fn take(books: &mut Books, conn: u64, place: u64, reply: Reply) -> Result<(), No
     ensures same { OnErr result (books.new.events ≡ books.old.events) }
     ensures more { OnErr result (books.old.room ≤ books.new.room) }
 {
-    let copy = EventCopy::of(Event::Took {
-        conn,
-        place,
-        reply: reply.clone()?,
-    })?;
+    let copy = EventCopy::of(
+        alloc,
+        Event::Took {
+            conn,
+            place,
+            reply: reply.clone()?,
+        },
+    )?;
     books.reserve_answers(66)?;
     let _callers = books.setup().callers;
     books.add(Event::Took { conn, place, reply }, copy);
@@ -98,7 +108,7 @@ impl Core {
             self.break_off(conn, Cause::Garbled);
             return Err(TookFault::Shape(shape));
         }
-        match take(&mut self.books, conn, place, reply) {
+        match take(self.alloc, &mut self.books, conn, place, reply) {
             Ok(()) => Ok(()),
             Err(_) => {
                 self.break_off(conn, Cause::NoMemory);

@@ -12,7 +12,7 @@ use Rattle.n41_model.specs.declared.words.Setup.{Setup}
 use Rattle.n41_model.specs.Answers.{breach_at}
 use Rattle.n41_model.specs.Calls.{number}
 use Rattle.n41_model.specs.Requests.{dials, moment, quit}
-use Rattle.n41_due.specs.declared.wants.Want.{Want}
+use Rattle.n41_wants.specs.declared.wants.Want.{Want}
 use Rattle.n41_core.specs.Causes.{WantCause, post_fault}
 use Rattle.n41_core.specs.State.{State, appends, begun, met, posted}
 use Rattle.n41_core.specs.declared.faults.PostFault.{PostFault}

@@ -12,8 +12,8 @@ use Rattle.n41_model.specs.declared.words.Item.{Item}
 use Rattle.n41_model.specs.Calls.{number}
 use Rattle.n41_model.specs.Kept.{IsOld}
 use Rattle.n41_model.specs.Requests.{dials, moment}
-use Rattle.n41_due.specs.declared.wants.Want.{Want}
-use Rattle.n41_due.specs.declared.wants.Want.TheVariants as want
+use Rattle.n41_wants.specs.declared.wants.Want.{Want}
+use Rattle.n41_wants.specs.declared.wants.Want.TheVariants as want
 use Rattle.n41_core.specs.Causes.{ShapeCause, WantCause, post_fault}
 use Rattle.n41_core.specs.Settled.{IsDecided}
 use Rattle.n41_core.specs.State.{State, Sent, HasPut, TakesReply, ThenAnswers, appends, posted, ticked}

@@ -11,7 +11,7 @@ ghost use Rattle.n41_desk.specs.Steps.{Acts, Notes};
 use crate::lines::{Lines, dial};
 use crate::turns::Turn;
 use n41_core::Core;
-use n41_due::Want;
+use n41_wants::Want;
 use n41_link::{Clock, Dialer};
 use n41_types::NoMemory;
 use std::alloc::Global;

@@ -13,8 +13,8 @@ use Rattle.n41_model.specs.declared.words.Setup.{Setup}
 use Rattle.n41_model.specs.Answers.{breach_at}
 use Rattle.n41_model.specs.Calls.{command, number}
 use Rattle.n41_model.specs.Requests.{quit, moment, dials}
-use Rattle.n41_due.specs.declared.wants.Want.{Want}
-use Rattle.n41_due.specs.declared.wants.Want.TheVariants as want
+use Rattle.n41_wants.specs.declared.wants.Want.{Want}
+use Rattle.n41_wants.specs.declared.wants.Want.TheVariants as want
 use Rattle.n41_core.specs.Causes.{post_fault}
 use Rattle.n41_core.specs.State.{State, OnlyAnswers, ThenAnswers, appends, begun, met, posted, ticked}
 use Rattle.n41_core.specs.declared.faults.PostFault.{PostFault}

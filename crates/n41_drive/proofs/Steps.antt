@@ -6,8 +6,8 @@ use Rattle.n41_journal.specs.declared.events.Event.{Event}
 use Rattle.n41_model.specs.declared.words.Setup.{Setup}
 use Rattle.n41_model.specs.Due.{has_ended}
 use Rattle.n41_model.specs.Requests.{quit}
-use Rattle.n41_due.specs.declared.wants.Want.{Want}
-use Rattle.n41_due.specs.declared.wants.Want.TheVariants as want
+use Rattle.n41_wants.specs.declared.wants.Want.{Want}
+use Rattle.n41_wants.specs.declared.wants.Want.TheVariants as want
 use Rattle.n41_core.specs.Causes.{WantCause}
 use Rattle.n41_core.specs.Settled.{IsDecided}
 use Rattle.n41_core.specs.State.{State}

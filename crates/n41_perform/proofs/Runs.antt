@@ -8,12 +8,13 @@ use Rattle.n41_model.specs.Answers.{breach_at, round_limit}
 use Rattle.n41_model.specs.Kept.{Kept}
 use Rattle.n41_model.specs.OneOut.{KeepsOneOut}
 use Rattle.n41_model.specs.Requests.{rounds}
+use Rattle.n41_runs.specs.Good.{RunsAreGood}
 use Rattle.n41_script.specs.declared.script.Script.{Script}
 use Rattle.n41_script.specs.declared.script.ScriptLine.{ScriptLine}
 use Rattle.n41_drive.specs.Drives.{Driven}
 use Rattle.n41_perform.specs.declared.fault.PerformFault.{PerformFault}
 use Rattle.n41_perform.specs.declared.fault.PerformFault.TheVariants as fault
-use Rattle.n41_perform.specs.Performs.{IsClientOf, IsWhole, AlwaysOneOut, IsMade, RunsTo, callers_of, ending}
+use Rattle.n41_perform.specs.Performs.{IsClientOf, IsWhole, AlwaysOneOut, AlwaysGood, IsMade, RunsTo, callers_of, ending}
 
 -- ---- a run that did not begin
 
@@ -61,3 +62,8 @@ kept_before u (e ∷ later) before k = kept_before u later before k.0
 
 pub always_one_out : (js : List Event) → KeepsOneOut → ((u : Setup) × IsWhole u js) → AlwaysOneOut js
 always_one_out js law w = λ later before e. law w.0 before (kept_before w.0 later before (subst (λ (ks : List Event). Kept w.0 ks) e w.1.kept))
+
+-- ---- of every run that has this journal
+
+pub always_good : (js : List Event) → RunsAreGood → ((u : Setup) × IsWhole u js) → AlwaysGood js
+always_good js law x = λ w l e. (x.0, law x.0 w l (subst (λ (ks : List Event). Kept x.0 ks) (sym e) x.1.kept))

@@ -8,7 +8,7 @@ use Rattle.n41_model.specs.Calls.{is_built, is_none_left}
 use Rattle.n41_words.specs.Lines.{lines, words, is_skipped, is_empty}
 use Rattle.n41_words.specs.Words.{has_control, same}
 use Rattle.n41_commands.specs.Callers.{is_caller, is_kept}
-use Rattle.n41_commands.specs.Commands.{next, ended, command_with, onward, verb_of}
+use Rattle.n41_commands.specs.Commands.{next, ended, command_with, onward, seconds, verb_of}
 use Rattle.n41_commands.specs.Heads.{ids, owner, owner_word}
 use Rattle.n41_commands.specs.declared.heads.Ids.{Ids}
 use Rattle.n41_commands.specs.Paths.{path, target, named}
@@ -71,6 +71,8 @@ both false b g h = absurd (cc)
 
 with_built : (v : Verb) (long : Bool) (ws : List (List ℕ)) → script.is_built v ≡ true → Built (command_with v long ws)
 with_built verb.Stat long ws h = next_built long ws path _ (λ w p vs e. ended_built long vs (command.Stat p) refl)
+with_built verb.List long ws h = next_built long ws path _ (λ w p vs e. ended_built long vs (command.List p) refl)
+with_built verb.Pause long ws h = next_built long ws seconds _ (λ w s vs e. ended_built long vs (command.Pause s) refl)
 with_built verb.MakeDir long ws h = next_built long ws target _ (λ w p vs e. ended_built long vs (command.MakeDir p) (target_some w p e))
 with_built verb.Remove long ws h = next_built long ws target _ (λ w p vs e. ended_built long vs (command.Remove p) (target_some w p e))
 with_built verb.Rename long ws h =

@@ -10,6 +10,9 @@ use Rattle.n41_model.specs.Kept.{Kept}
 use Rattle.n41_model.specs.OneOut.{OneOut}
 use Rattle.n41_model.specs.Requests.{rounds}
 use Rattle.n41_model.specs.Text.{text}
+use Rattle.n41_runs.specs.Good.{Good}
+use Rattle.n41_runs.specs.Rules.{Legal}
+use Rattle.n41_runs.specs.Steps.{Step, client}
 use Rattle.n41_core.specs.Settled.{IsSettled}
 use Rattle.n41_script.specs.Scripts.{IsScript, IsFault, script_limit}
 use Rattle.n41_script.specs.declared.script.Script.{Script}
@@ -57,6 +60,11 @@ pub record IsWhole (u : Setup) (js : List Event) : Type 0 where
 -- at every moment of the run: on each slot at most one request was out, and at most one without a slot; what went again was the same request
 abbrev pub AlwaysOneOut : List Event → Type 0
 AlwaysOneOut js = (later before : List Event) → js ≡ later ++ before → OneOut before
+
+-- Each run of client, net and server that keeps the rules and has this journal is good: a change that was answered as done took effect once,
+-- none twice, and Unknown was answered only where the reply was lost with the run.
+abbrev pub AlwaysGood : List Event → Type 0
+AlwaysGood js = (w : List Step) → Legal w → client w ≡ js → (u : Setup) × Good u w
 
 -- what the fault of a source is to the whole
 abbrev pub of_source : ReadFault → PerformFault

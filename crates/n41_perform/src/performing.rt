@@ -7,7 +7,7 @@ ghost use Rattle.n41_desk.specs.Journals.{moments};
 ghost use Rattle.n41_desk.specs.Lines.{AreWires};
 ghost use Rattle.n41_desk.specs.Moments.{AreGiven, CountsDials};
 ghost use Rattle.n41_drive.specs.Drives.{AreBuilt};
-ghost use Rattle.n41_perform.specs.Performs.{AlwaysOneOut, IsWhole, Outcome, Prints, RunsTo, is_read_fault, is_write_fault};
+ghost use Rattle.n41_perform.specs.Performs.{AlwaysGood, AlwaysOneOut, IsWhole, Outcome, Prints, RunsTo, is_read_fault, is_write_fault};
 
 use crate::PerformFault;
 use crate::printing::print;
@@ -17,6 +17,7 @@ use n41_core::Packet;
 use n41_journal::Journal;
 use n41_link::{Clock, Dialer, Sink, Source};
 use n41_model::one_request_is_out;
+use n41_once::a_change_takes_effect_once;
 use n41_script::Script;
 use n41_wire::Wire;
 use std::alloc::Global;
@@ -141,12 +142,14 @@ where
     ensures given { AreGiven (C.given result.clock) (moments result.journal.events) }
     ensures whole { (setup : SetupValue) × IsWhole setup result.journal.events }
     ensures one_out { AlwaysOneOut result.journal.events }
+    ensures good { AlwaysGood result.journal.events }
     ensures dials { CountsDials [] result.journal.events (D.faults dialer) (D.faults result.dialer) }
     ensures reads { Counts (S.faults source.old) (S.faults source.new) (is_read_fault result.fault) }
     ensures writes { Counts (K.faults sink.old) (K.faults sink.new) (is_write_fault result.fault) }
     ensures tells { C.tells result.clock ≡ C.tells clock }
 {
     one_request_is_out();
+    a_change_takes_effect_once();
     match read(alloc, source) {
         Ok(script) => perform_script(rt, alloc, addr, &script, sink, dialer, clock),
         Err(fault) => untouched(alloc, fault, dialer, clock),

@@ -15,7 +15,7 @@ use Rattle.n41_wire.specs.declared.wire.Wire.{Wire}
 use Rattle.n41_desk.specs.Journals.{moments}
 use Rattle.n41_desk.specs.Lines.{AreWires}
 use Rattle.n41_desk.specs.Moments.{AreGiven, CountsDials}
-use Rattle.n41_perform.specs.Performs.{AlwaysOneOut, IsWhole, Outcome, is_read_fault, is_write_fault}
+use Rattle.n41_perform.specs.Performs.{AlwaysGood, AlwaysOneOut, IsWhole, Outcome, is_read_fault, is_write_fault}
 use Rattle.n41_perform.specs.declared.fault.PerformFault.{PerformFault}
 use Rattle.n41_perform.specs.declared.fault.PerformFault.TheVariants as perform
 use Rattle.n41_lines.specs.declared.side.Side.{Side}
@@ -136,6 +136,7 @@ pub record RunEnds {I O P : Type 0} {g : InGhosts I} {h : OutGhosts O} {k : Parc
   pub outcome : Outcome cause given left left_new taken taken_new js
   pub whole : (u : Setup) × IsWhole u js
   pub one_out : AlwaysOneOut js
+  pub good : AlwaysGood js
   pub connections : AreWires js wires
   pub gave : AreGiven given (moments js)
   pub dials : CountsDials [] js dialed dialed_new

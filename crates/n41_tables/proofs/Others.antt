@@ -1,5 +1,5 @@
 -- A step for one caller or one slot leaves the others, so that it is a change at one place.
-use Rattle.std.proofs.Common.{◌≡◌, ◌≢◌, ℕ, ◌+◌, ◌<◌, ◌≤◌, ◌==◌, Bool, true, false, length, List, map, set, get_or, Option, Some, None, slice_get, refl, sym, ◌∙◌, ap, arith, zero-add, eq-eqb}
+use Rattle.std.proofs.Common.{◌≡◌, ◌≢◌, ℕ, ◌+◌, ◌<◌, ◌≤◌, ◌==◌, true, false, length, List, map, set, get_or, Option, Some, None, slice_get, refl, sym, ◌∙◌, ap, arith, zero-add, eq-eqb}
 use Rattle.std.proofs.lemmas.Bool.{eqb-true, ne_eqb}
 use Rattle.std.proofs.lemmas.Option.{slice_get-get_or, slice_get_past}
 use Rattle.n41_types.specs.declared.commands.Answer.{Answer}

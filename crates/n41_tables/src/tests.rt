@@ -332,26 +332,30 @@ fn read(alloc: Global, turn: u8, entry: Entry, eof: bool) -> Result<Results, NoM
     Results::from_vec(alloc, list)
 }
 
-/// A listing of the root: the tables once its first READDIR was answered with one entry, and the next was put from this cookie.
-fn listing(alloc: Global, cookie: u64) -> Result<Tables, NoMemory> {
-    let path = Path::from_vec(alloc, Vec::new(alloc))?;
-    let mut tables = begun(alloc, Command::List { path })?;
-    let first = Plan::List {
-        at: Place::Root,
-        cookie: 0,
-        verf: [0; 8],
-        max: 3072,
-    };
-    put(alloc, &mut tables, 2, first)?;
-    let list = read(alloc, 2, entry(alloc, 40, b"one")?, false)?;
-    took(alloc, &mut tables, 2, list)?;
-    let second = Plan::List {
+/// A READDIR of the root.
+fn reading(cookie: u64, verf: [u8; 8]) -> Plan {
+    Plan::List {
         at: Place::Root,
         cookie,
-        verf: [2; 8],
+        verf,
         max: 3072,
-    };
-    put(alloc, &mut tables, 3, second)?;
+    }
+}
+
+/// A listing of the root: the tables once its first READDIR was put.
+fn listing_begun(alloc: Global) -> Result<Tables, NoMemory> {
+    let path = Path::from_vec(alloc, Vec::new(alloc))?;
+    let mut tables = begun(alloc, Command::List { path })?;
+    put(alloc, &mut tables, 2, reading(0, [0; 8]))?;
+    Ok(tables)
+}
+
+/// The tables also once that was answered with one entry, and the next was put from this cookie.
+fn listing(alloc: Global, cookie: u64) -> Result<Tables, NoMemory> {
+    let mut tables = listing_begun(alloc)?;
+    let list = read(alloc, 2, entry(alloc, 40, b"one")?, false)?;
+    took(alloc, &mut tables, 2, list)?;
+    put(alloc, &mut tables, 3, reading(cookie, [2; 8]))?;
     Ok(tables)
 }
 

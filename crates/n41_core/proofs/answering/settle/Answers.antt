@@ -1,4 +1,3 @@
-use Rattle.std.proofs.Common.{arith}
 use Rattle.n41_core.proofs.Rounds.{one_more}
 use Rattle.n41_core.proofs.answering.settle.Goals as goal
 

@@ -1,4 +1,4 @@
-use Rattle.std.proofs.Common.{◌∷◌, [], sym, subst, List}
+use Rattle.std.proofs.Common.{sym, subst, List}
 use Rattle.n41_journal.specs.declared.events.Event.{Event}
 use Rattle.n41_core.specs.Books.{Book, Settles}
 use Rattle.n41_core.proofs.Rounds.{settles_answer}

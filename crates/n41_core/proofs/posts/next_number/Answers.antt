@@ -1,7 +1,6 @@
-use Rattle.std.proofs.Common.{inl, inr, ◌∙◌, ap, sym, arith, ◌≡◌, suc, None}
+use Rattle.std.proofs.Common.{inr, ◌∙◌, ap, sym, arith}
 use Rattle.std.proofs.lemmas.Grind.{common_steps}
 use Rattle.n41_view.specs.declared.tables.Facts.{Facts}
-use Rattle.n41_model.specs.Calls.{number}
 use Rattle.n41_core.proofs.Commands.{fault_absent, fault_busy, fault_quit, fault_none, number_there}
 use Rattle.n41_core.proofs.posts.next_number.Goals as goal
 

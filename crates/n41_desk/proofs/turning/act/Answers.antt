@@ -1,5 +1,5 @@
 use Rattle.std.proofs.Common.{refl}
-use Rattle.n41_due.specs.declared.wants.Want.TheVariants as want
+use Rattle.n41_wants.specs.declared.wants.Want.TheVariants as want
 use Rattle.n41_desk.specs.Lines.{StaysQuiet}
 use Rattle.n41_desk.proofs.Acted.{counts_sent, counts_read, counts_still}
 use Rattle.n41_desk.proofs.Held.{acts_went, acts_idle}

@@ -1,5 +1,5 @@
 use Rattle.n41_perform.proofs.Scripts.{few_callers, are_built}
-use Rattle.n41_perform.proofs.Runs.{whole_none, always_one_out}
+use Rattle.n41_perform.proofs.Runs.{whole_none, always_one_out, always_good}
 use Rattle.n41_perform.proofs.Outcomes.{outcome, reads_of, untouched, unread_writes}
 use Rattle.n41_perform.proofs.performing.perform.Goals as goal
 
@@ -17,6 +17,9 @@ returns-in-Ok-clause-outcome g c =
 
 pub returns-in-Ok-clause-one_out : goal.returns-in-Ok-clause-one_out
 returns-in-Ok-clause-one_out g c = always_one_out _ c.one_request_is_out.ensures c.perform_script.ensures.whole
+
+pub returns-in-Ok-clause-good : goal.returns-in-Ok-clause-good
+returns-in-Ok-clause-good g c = always_good _ c.a_change_takes_effect_once.ensures c.perform_script.ensures.whole
 
 pub returns-in-Ok-clause-reads : goal.returns-in-Ok-clause-reads
 returns-in-Ok-clause-reads g c =
@@ -38,6 +41,9 @@ returns-in-Err-clause-whole g c = whole_none _ c.untouched.ensures.journal
 
 pub returns-in-Err-clause-one_out : goal.returns-in-Err-clause-one_out
 returns-in-Err-clause-one_out g c = always_one_out _ c.one_request_is_out.ensures (whole_none _ c.untouched.ensures.journal)
+
+pub returns-in-Err-clause-good : goal.returns-in-Err-clause-good
+returns-in-Err-clause-good g c = always_good _ c.a_change_takes_effect_once.ensures (whole_none _ c.untouched.ensures.journal)
 
 pub returns-in-Err-clause-writes : goal.returns-in-Err-clause-writes
 returns-in-Err-clause-writes g c =

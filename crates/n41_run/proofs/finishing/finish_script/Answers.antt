@@ -17,6 +17,7 @@ returns-clause-ends g c =
       outcome = e.outcome;
       whole = e.whole;
       one_out = e.one_out;
+      good = e.good;
       connections = e.wires;
       gave = e.given;
       dials = e.dials;

@@ -1,4 +1,3 @@
-use Rattle.n41_answers.specs.Indexed.{Indexes}
 use Rattle.n41_core.proofs.books.Books.answer_of.Goals as goal
 
 pub answer_of-requires : goal.answer_of-requires

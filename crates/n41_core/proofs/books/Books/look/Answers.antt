@@ -1,4 +1,4 @@
-use Rattle.std.proofs.Common.{◌≡◌, ◌<◌, ◌∙◌, ap, arith}
+use Rattle.std.proofs.Common.{ap, arith}
 use Rattle.n41_model.specs.Sessions.{slots}
 use Rattle.n41_view.specs.declared.tables.Facts.{Facts}
 use Rattle.n41_core.specs.Books.{Book}

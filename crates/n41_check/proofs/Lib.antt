@@ -1,0 +1,13 @@
+pub mod InPlace
+pub mod Finding
+pub mod Equal
+pub mod Rows
+pub mod Puts
+pub mod Keys
+pub mod Alone
+pub mod Knowing
+pub mod Seats
+pub mod Leading
+pub mod Causes
+pub mod Kept
+pub mod Walked

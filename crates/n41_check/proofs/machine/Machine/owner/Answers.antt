@@ -1,0 +1,24 @@
+use Rattle.std.proofs.Common.{◌≡◌, sym, ◌∙◌, ap, None}
+use Rattle.n41_model.specs.Calls.{chosen, in_running, ledger}
+use Rattle.n41_model.specs.Sessions.{phase}
+use Rattle.n41_model.specs.declared.words.Phase.{Phase}
+use Rattle.n41_model.specs.declared.words.Phase.TheVariants.{Running}
+use Rattle.n41_check.specs.Callers.{best_of, caller_of}
+use Rattle.n41_check.specs.declared.now.Now.{Now}
+use Rattle.n41_check.proofs.Leading.{owns_none, owns_new}
+use Rattle.n41_check.proofs.Seats.{chosen_is}
+use Rattle.n41_check.proofs.machine.Machine.owner.Goals as goal
+
+pub returns-then-not-is_new : goal.returns-then-not-is_new
+returns-then-not-is_new c = λ n js s. owns_none n js c.args.request.now (sym (c.is_new.ensures n js s.requests) ∙ c.if-not-is_new.true)
+
+pub returns-in-Running : goal.returns-in-Running
+returns-in-Running c = λ n js s.
+    let m = c.args.self.now in
+    let p = c.args.request.now.plan in
+    let h : phase js ≡ Running = sym (ap (λ (w : Now). w.phase) s.facts) ∙ c.in-Running.is in
+    owns_new n js c.args.request.now c.chosen.result (sym (c.is_new.ensures n js s.requests) ∙ c.if-not-is_new.false)
+    (c.chosen.ensures.value
+    ∙ (ap (λ (w : Now). caller_of (best_of w.moment w.session p None m.seats.entries)) s.facts
+    ∙ (chosen_is n js p m.seats c.chosen.ensures.ordered s.few s.seats
+    ∙ sym (ap (λ (q : Phase). in_running q (chosen js (ledger n js).calls p n)) h))))

@@ -1,0 +1,7 @@
+use Rattle.std.proofs.Common.{◌≡◌}
+use Rattle.n41_check.specs.Rows.{rows, broke_row}
+use Rattle.n41_view.proofs.InPlace.{stepped}
+use Rattle.n41_check.proofs.slots.broke_slots.Given as goal
+
+abbrev pub invariant-loop-slot : goal.invariant-loop-slot
+invariant-loop-slot l = rows l.slots ≡ stepped broke_row l.slot-index (rows l.initial.slots)

@@ -1,0 +1,5 @@
+pub mod Rules
+pub mod Rows
+pub mod Asked
+pub mod Callers
+pub mod Shows

@@ -1,0 +1,5 @@
+//! Journals that break one of the five rules, or none.
+#![tactic(auto)]
+
+#[cfg(test)]
+mod tests;

@@ -1,0 +1,6 @@
+pub mod Suits
+pub mod Puts
+pub mod Moves
+pub mod Bares
+pub mod Single
+pub mod Said

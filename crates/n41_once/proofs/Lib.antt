@@ -1,0 +1,6 @@
+pub mod Acts
+pub mod Counted
+pub mod Counting
+pub mod Weighing
+pub mod Counts
+pub mod Goods

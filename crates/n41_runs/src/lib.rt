@@ -1,0 +1,3 @@
+//! The runs of a client, the net and a server that keeps its rules: what is legal, what took effect, and what the client promises of
+//! it. There are definitions alone here; their law stands in n41_once.
+#![tactic(auto)]
