@@ -30,8 +30,8 @@ pub(crate) fn put_unanswered(
     }
 }
 
-/// Adds the words for an answer.
-pub(crate) fn put_answer(alloc: Global, out: &mut Vec<u8>, answer: &Answer) -> Result<(), NoMemory>
+/// Adds the words for an answer, as a run prints them, at the end of a text.
+pub fn put_answer(alloc: Global, out: &mut Vec<u8>, answer: &Answer) -> Result<(), NoMemory>
     ensures { OnOk result (out.new.items ≡ out.old.items ++ answer_text answer.now) }
 {
     match answer {

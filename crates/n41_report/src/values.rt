@@ -8,15 +8,15 @@ ghost use Rattle.n41_model.specs.Text.{hex_or_dash, decimal_or_dash, padded, mod
 use n41_types::{Bytes, NoMemory, Texts, Value};
 use std::alloc::Global;
 
-/// Adds these words.
-pub(crate) fn put(out: &mut Vec<u8>, words: &str) -> Result<(), NoMemory>
+/// Adds these words at the end of a text.
+pub fn put(out: &mut Vec<u8>, words: &str) -> Result<(), NoMemory>
     ensures { OnOk result (out.new.items ≡ out.old.items ++ words.now) }
 {
     out.extend_from_slice(words.as_bytes())
 }
 
-/// Adds a number in decimal.
-pub(crate) fn put_decimal(alloc: Global, out: &mut Vec<u8>, number: u64) -> Result<(), NoMemory>
+/// Adds a number in decimal at the end of a text.
+pub fn put_decimal(alloc: Global, out: &mut Vec<u8>, number: u64) -> Result<(), NoMemory>
     ensures { OnOk result (out.new.items ≡ out.old.items ++ decimal number) }
 {
     let digits = number.to_string(alloc)?;

@@ -1,10 +1,13 @@
-use Rattle.n41_perform.proofs.Scripts.{few_callers, are_built}
+use Rattle.n41_perform.proofs.Scripts.{few_callers, short_owner, are_built}
 use Rattle.n41_perform.proofs.Runs.{whole_none, always_one_out, always_good}
 use Rattle.n41_perform.proofs.Outcomes.{outcome, reads_of, untouched, unread_writes}
 use Rattle.n41_perform.proofs.performing.perform.Goals as goal
 
 pub perform_script-requires-clause-few : goal.perform_script-requires-clause-few
 perform_script-requires-clause-few g c κs within = few_callers c.in-Ok.ensures.ok.bytes c.in-Ok.script c.in-Ok.ensures.ok.is
+
+pub perform_script-requires-clause-owner : goal.perform_script-requires-clause-owner
+perform_script-requires-clause-owner g c κs within = short_owner c.in-Ok.ensures.ok.bytes c.in-Ok.script c.in-Ok.ensures.ok.is
 
 pub perform_script-requires-clause-built : goal.perform_script-requires-clause-built
 perform_script-requires-clause-built g c κs within = are_built c.in-Ok.ensures.ok.bytes c.in-Ok.script c.in-Ok.ensures.ok.is

@@ -1,0 +1,9 @@
+pub mod Plain
+pub mod Says
+pub mod Filled
+pub mod Commands
+pub mod Told
+pub mod Lines
+pub mod Reversed
+pub mod Names
+pub mod Turns
