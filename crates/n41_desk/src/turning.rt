@@ -11,9 +11,9 @@ ghost use Rattle.n41_desk.specs.Steps.{Acts, Notes};
 use crate::lines::{Lines, dial};
 use crate::turns::Turn;
 use n41_core::Core;
-use n41_wants::Want;
 use n41_link::{Clock, Dialer};
 use n41_types::NoMemory;
+use n41_wants::Want;
 use std::alloc::Global;
 
 /// The milliseconds of a pause.
