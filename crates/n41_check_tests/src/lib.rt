@@ -1,5 +1,0 @@
-//! Journals that break one of the five rules, or none.
-#![tactic(auto)]
-
-#[cfg(test)]
-mod tests;
