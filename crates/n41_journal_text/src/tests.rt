@@ -11,7 +11,7 @@ use n41_types::{
     Answer, Bytes, Command, Label, Loss, Name, NoMemory, Path, Place, Plan, Request, Sequence,
     SessionId, SlotUse, Status, Texts, Value,
 };
-use std::alloc::{AllocError, Global};
+use std::alloc::Global;
 
 /// A look at the root, behind the first SEQUENCE of slot 0.
 const LOOK: &str =
@@ -29,15 +29,15 @@ const NULL: &str =
 const RECALLED: &str =
     "0000000900000001000000000000000000000000000000000000000000000000000000020000000b00000000000102030405060708090a0b0c0d0e0f000000010000000000000003000000030000000400000000";
 
+#[tactic(auto, using(crate::proofs::Reversed::all_more))]
 fn add(journal: &mut Journal, event: Event) -> Result<(), NoMemory>
     requires all { AllTellable journal.old.events }
     requires one { IsTellable event }
     ensures { OnOk result (AllTellable journal.new.events) }
 {
-    match journal.push(event) {
-        Ok(()) => Ok(()),
-        Err(_) => Err(AllocError),
-    }
+    journal.reserve(1)?;
+    journal.add(event);
+    Ok(())
 }
 
 /// Whether this is the text of a journal.
@@ -176,14 +176,22 @@ fn values_are_told(rt: HostRuntime) -> Result<(), NoMemory> {
     Ok(())
 }
 
-fn is_told(alloc: Global, event: Event, what: &[u8], message: &str) -> Result<bool, NoMemory>
+/// The line with these words and this message.
+fn line_of(alloc: Global, what: &[u8], message: &str) -> Result<Vec<u8>, NoMemory> {
+    let mut line = Vec::new(alloc);
+    line.extend_from_slice(what)?;
+    line.extend_from_slice(message.as_bytes())?;
+    line.extend_from_slice(b"\n")?;
+    Ok(line)
+}
+
+fn is_told(alloc: Global, event: Event, what: &[u8], message: &str) -> bool
     requires { IsTellable event }
 {
-    let mut want = Vec::new(alloc);
-    want.extend_from_slice(what)?;
-    want.extend_from_slice(message.as_bytes())?;
-    want.extend_from_slice(b"\n")?;
-    Ok(is_line(alloc, event, want.as_slice()))
+    match line_of(alloc, what, message) {
+        Ok(line) => is_line(alloc, event, line.as_slice()),
+        Err(_) => false,
+    }
 }
 
 fn look() -> Request
@@ -206,23 +214,22 @@ fn look() -> Request
 }
 
 #[test]
-fn a_request_is_told(rt: HostRuntime) -> Result<(), NoMemory> {
+fn a_request_is_told(rt: HostRuntime) {
     let put = Event::Put {
         conn: 1,
         place: 4,
         request: look(),
     };
-    assert!(rt; is_told(rt.alloc(), put, b"put 1 4 ", LOOK)?);
-    Ok(())
+    assert!(rt; is_told(rt.alloc(), put, b"put 1 4 ", LOOK));
 }
 
 /// Whether a reply with these bytes, taken, is told by them.
-fn is_reply_told(alloc: Global, message: &str) -> Result<bool, NoMemory> {
+fn is_reply_told(alloc: Global, message: &str) -> bool {
     let Ok(bytes) = hex::decode(alloc, message) else {
-        return Ok(false);
+        return false;
     };
     let Ok(reply) = read_reply(alloc, bytes.as_slice()) else {
-        return Ok(false);
+        return false;
     };
     replies_that_are_read_are_tellable();
     let took = Event::Took {
@@ -233,12 +240,12 @@ fn is_reply_told(alloc: Global, message: &str) -> Result<bool, NoMemory> {
     is_told(alloc, took, b"took 2 0 ", message)
 }
 
-fn is_callback_told(alloc: Global, message: &str) -> Result<bool, NoMemory> {
+fn is_callback_told(alloc: Global, message: &str) -> bool {
     let Ok(bytes) = hex::decode(alloc, message) else {
-        return Ok(false);
+        return false;
     };
     let Ok(call) = read_call(alloc, bytes.as_slice()) else {
-        return Ok(false);
+        return false;
     };
     let took = Event::CbTook {
         conn: 2,
@@ -248,12 +255,12 @@ fn is_callback_told(alloc: Global, message: &str) -> Result<bool, NoMemory> {
     is_told(alloc, took, b"cbtook 2 1 ", message)
 }
 
-fn is_callback_reply_told(alloc: Global, message: &str) -> Result<bool, NoMemory> {
+fn is_callback_reply_told(alloc: Global, message: &str) -> bool {
     let Ok(bytes) = hex::decode(alloc, message) else {
-        return Ok(false);
+        return false;
     };
     let Ok(reply) = read_answer(alloc, bytes.as_slice()) else {
-        return Ok(false);
+        return false;
     };
     let put = Event::CbPut {
         conn: 2,
@@ -264,12 +271,11 @@ fn is_callback_reply_told(alloc: Global, message: &str) -> Result<bool, NoMemory
 }
 
 #[test]
-fn messages_are_told(rt: HostRuntime) -> Result<(), NoMemory> {
+fn messages_are_told(rt: HostRuntime) {
     let alloc = rt.alloc();
-    assert!(rt; is_reply_told(alloc, NAMED)?);
-    assert!(rt; is_callback_told(alloc, NULL)?);
-    assert!(rt; is_callback_reply_told(alloc, RECALLED)?);
-    Ok(())
+    assert!(rt; is_reply_told(alloc, NAMED));
+    assert!(rt; is_callback_told(alloc, NULL));
+    assert!(rt; is_callback_reply_told(alloc, RECALLED));
 }
 
 fn path_of(alloc: Global, name: &[u8]) -> Result<Path, NoMemory> {
