@@ -1,0 +1,5 @@
+pub mod Names
+pub mod Forms
+pub mod Answers
+pub mod Events
+pub mod Journals
