@@ -23,7 +23,7 @@ fn has_spans(plan: &Plan)
 }
 
 /// A request is lawful by the types of its parts.
-pub(crate) fn is_lawful(request: &Request)
+pub fn request_is_lawful(request: &Request)
     ensures { IsLawful request.now }
 {
     let _uid = request.uid;

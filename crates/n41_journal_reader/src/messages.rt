@@ -4,7 +4,7 @@ ghost use Rattle.n41_seen.specs.Calls.{call_at};
 ghost use Rattle.n41_words.specs.Faults.{Gives};
 ghost use Rattle.n41_journal_reader.specs.Messages.{reply_of, callback_of, callback_reply_of, seen, IsFoundIn};
 
-use crate::lawful::is_lawful;
+use crate::lawful::request_is_lawful;
 use n41_cbmsg::{read_answer, read_call};
 use n41_compound::{CallSeen, read_reply, read_request, request_of};
 use n41_results::{CbCall, CbReply, Reply};
@@ -30,7 +30,7 @@ fn request_in_call(alloc: Global, call: &CallSeen) -> Result<Option<Request>, No
     let found = request_of(alloc, call)?;
     match found {
         Some(request) => {
-            is_lawful(&request);
+            request_is_lawful(&request);
             Ok(Some(request))
         }
         None => Ok(None),
