@@ -1,0 +1,6 @@
+pub mod Firsts
+pub mod Steps
+pub mod Tellings
+pub mod Found
+pub mod One
+pub mod Texts

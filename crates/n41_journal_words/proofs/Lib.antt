@@ -1,0 +1,3 @@
+pub mod Firsts
+pub mod Loop
+pub mod Bytes
