@@ -22,4 +22,6 @@ mod refusals;
 #[cfg(test)]
 mod runs;
 #[cfg(test)]
+mod traces;
+#[cfg(test)]
 mod walks;

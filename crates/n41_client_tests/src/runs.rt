@@ -40,10 +40,10 @@ pub(crate) fn over<'a>(script: &'a [u8], links: &'a [&'a [Bytes]]) -> Outside<'a
     }
 }
 
-/// The words of a run.
-fn words(alloc: Global) -> Result<Vec<String>, NoMemory> {
+/// The words of a run, of which this is the first.
+fn words(alloc: Global, verb: &str) -> Result<Vec<String>, NoMemory> {
     let mut texts = Vec::new(alloc);
-    texts.push(String::from_str(alloc, "run")?)?;
+    texts.push(String::from_str(alloc, verb)?)?;
     texts.push(String::from_str(alloc, "x:2049")?)?;
     Ok(texts)
 }
@@ -113,7 +113,7 @@ fn look_at(alloc: Global, ended: Ended, sink: SureSink) -> Result<Seen, NoMemory
     })
 }
 
-/// Runs the script.
+/// Runs the script, and prints the answers.
 pub(crate) fn see<R: Threads + Wait + Sync>(
     rt: &R,
     alloc: Global,
@@ -121,7 +121,19 @@ pub(crate) fn see<R: Threads + Wait + Sync>(
 ) -> Result<Seen, Fail>
     requires { 0 < length outside.moments.now }
 {
-    let words = words(alloc)?;
+    see_by(rt, alloc, "run", outside)
+}
+
+/// Does what this first word asks for with the script.
+pub(crate) fn see_by<R: Threads + Wait + Sync>(
+    rt: &R,
+    alloc: Global,
+    verb: &str,
+    outside: Outside<'_>,
+) -> Result<Seen, Fail>
+    requires { 0 < length outside.moments.now }
+{
+    let words = words(alloc, verb)?;
     let mut source = SureSource::new(alloc, outside.script)?;
     let mut sink = SureSink::new(alloc);
     let dialer = dialer(alloc, &outside)?;

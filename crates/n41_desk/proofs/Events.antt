@@ -189,3 +189,38 @@ none_put_next u js k = (unmade_in u js k).none_put (suc (dials js)) (omega arith
 
 pub none_taken_next : (u : Setup) (js : List Event) → Kept u js → taken_on js (suc (dials js)) ≡ []
 none_taken_next u js k = (unmade_in u js k).none_taken (suc (dials js)) (omega arith)
+
+pub none_taken_later : (u : Setup) (js : List Event) (c : ℕ) → Kept u js → dials js < c → taken_on js c ≡ []
+none_taken_later u js c k l = (unmade_in u js k).none_taken c l
+
+-- the first connection has number 1
+stands_later : (u : Setup) (js : List Event) → Kept u js → (d : ℕ) → standing js ≡ Some d → 0 < d
+stands_later u [] k d e = absurd (no_some d e)
+stands_later u (Dialed c ∷ js) k d e = omega (arith, some_same c d e, k.1.1)
+stands_later u (Broke c w ∷ js) k d e = absurd (no_some d e)
+stands_later u (Put c p r ∷ js) k d e = stands_later u js k.0 d e
+stands_later u (Took c p y ∷ js) k d e = stands_later u js k.0 d e
+stands_later u (Began c n a m ∷ js) k d e = stands_later u js k.0 d e
+stands_later u (CbTook c p x ∷ js) k d e = absurd k.1
+stands_later u (CbPut c p x ∷ js) k d e = absurd k.1
+stands_later u (DialFailed ∷ js) k d e = stands_later u js k.0 d e
+stands_later u (Ticked m ∷ js) k d e = stands_later u js k.0 d e
+stands_later u (Answered c n a ∷ js) k d e = stands_later u js k.0 d e
+stands_later u (Quit ∷ js) k d e = stands_later u js k.0 d e
+
+-- nothing was taken on a connection without a number
+pub none_taken_first : (u : Setup) (js : List Event) → Kept u js → taken_on js 0 ≡ []
+none_taken_first u [] k = refl
+none_taken_first u (Took c p y ∷ js) k =
+    let l = stands_later u js k.0 c k.1.1.stands in
+    taken_other (Took c p y) js 0 (λ (e : c ≡ 0). omega (arith, e, l)) ∙ none_taken_first u js k.0
+none_taken_first u (Dialed c ∷ js) k = none_taken_first u js k.0
+none_taken_first u (Broke c w ∷ js) k = none_taken_first u js k.0
+none_taken_first u (Put c p r ∷ js) k = none_taken_first u js k.0
+none_taken_first u (Began c n a m ∷ js) k = none_taken_first u js k.0
+none_taken_first u (CbTook c p x ∷ js) k = absurd k.1
+none_taken_first u (CbPut c p x ∷ js) k = absurd k.1
+none_taken_first u (DialFailed ∷ js) k = none_taken_first u js k.0
+none_taken_first u (Ticked m ∷ js) k = none_taken_first u js k.0
+none_taken_first u (Answered c n a ∷ js) k = none_taken_first u js k.0
+none_taken_first u (Quit ∷ js) k = none_taken_first u js k.0

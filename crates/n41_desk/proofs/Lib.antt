@@ -3,6 +3,7 @@ mod Fates
 mod Heard
 mod Taken
 mod Linked
+mod Told
 mod Lined
 mod Noted
 mod Acted

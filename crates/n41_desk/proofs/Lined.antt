@@ -1,12 +1,14 @@
 -- What a turn leaves of all connections.
 use Rattle.std.proofs.Common.{◌≡◌, ◌≢◌, ◌<◌, ◌≤◌, ◌+◌, ◌-◌, ◌^◌, min, ℕ, suc, true, false, List, [], ◌∷◌, ◌++◌, length, Option, Some, None, inl, inr, ◌⊎◌, refl, sym, ◌∙◌, ap, subst, arith, length-append}
 use Rattle.std.proofs.lemmas.Bool.{cases_lt}
+use Rattle.std.specs.Prelude.{All}
 use Rattle.n41_link.specs.Counts.{Counts, Rose}
 use Rattle.n41_link.specs.declared.connection.Inflow.{Ghosts as InGhosts}
 use Rattle.n41_link.specs.declared.connection.Outflow.{Ghosts as OutGhosts}
 use Rattle.n41_types.specs.declared.plans.Request.{Request}
 use Rattle.n41_results.specs.declared.messages.Parcel.{Ghosts as ParcelGhosts}
 use Rattle.n41_results.specs.declared.replies.Reply.{Reply}
+use Rattle.n41_replies.specs.Replies.{IsSpellable}
 use Rattle.n41_journal.specs.declared.events.Event.{Event}
 use Rattle.n41_journal.specs.declared.events.Event.TheVariants.{Dialed, DialFailed}
 use Rattle.n41_model.specs.declared.words.Setup.{Setup}
@@ -84,6 +86,13 @@ nothing_first = ([], [], record { front = []; whole = refl; records = refl }, re
 -- nothing was read, and nothing was handed out
 pub unheard_first : (log : List ℕ) (replies : List Reply) → log ≡ [] → replies ≡ [] → StandFirst log replies
 unheard_first log replies e f = subst (λ (xs : List ℕ). StandFirst xs replies) (sym e) (subst (λ (ys : List Reply). StandFirst [] ys) (sym f) nothing_first)
+
+none_told : All IsSpellable []
+none_told = λ k d l. absurd (omega (arith, l))
+
+-- nothing was handed out
+pub unheard_told : (replies : List Reply) → replies ≡ [] → All IsSpellable replies
+unheard_told replies e = subst (λ (ys : List Reply). All IsSpellable ys) (sym e) none_told
 
 -- ---- dials
 

@@ -1,6 +1,6 @@
 -- What a turn on the connection that stands comes to.
 use Rattle.std.proofs.Common.{◌≡◌, ◌≢◌, ◌<◌, ◌≤◌, ◌+◌, ◌-◌, ◌^◌, min, ℕ, suc, true, false, List, [], ◌∷◌, ◌++◌, length, take, drop, Option, Some, None, Result, Ok, Err, inl, inr, ◌⊎◌, refl, sym, ◌∙◌, ap, subst, arith, append_assoc}
-use Rattle.std.specs.Prelude.{IsSome}
+use Rattle.std.specs.Prelude.{IsSome, All}
 use Rattle.std.proofs.lemmas.List.{take-append-drop}
 use Rattle.std.proofs.lemmas.List.{append-nil}
 use Rattle.n41_record.specs.Fragments.{fragment}
@@ -22,6 +22,7 @@ use Rattle.n41_model.specs.declared.words.Setup.{Setup}
 use Rattle.n41_model.specs.Due.{due, NothingDue}
 use Rattle.n41_model.specs.Kept.{Kept, IsOld}
 use Rattle.n41_model.specs.Requests.{standing, dials, takes}
+use Rattle.n41_replies.specs.Replies.{IsSpellable}
 use Rattle.n41_requests.specs.Requests.{spelled}
 use Rattle.n41_core.specs.Causes.{ShapeCause}
 use Rattle.n41_core.specs.State.{State, Sent, HasPut, OnlyAnswers, AddsAnswers, ThenAnswers, TakesReply, appends}
@@ -49,8 +50,8 @@ use Rattle.n41_desk.proofs.Fates.{carries_calm, carries_put, carries_took, carri
 -- ---- hearing
 
 -- the wire with this inlet is of the connection that it was of
-pub hears_on : {I O P : Type 0} {g : InGhosts I} {h : OutGhosts O} {k : ParcelGhosts P} (c : ℕ) (w : Wire I O P g h k) (i : Inlet I g) → IsOf w c → inlet_conn i ≡ inlet_conn w.inlet → KnownAs (g.got (inlet_inflow i)) (inlet_log i) → StandFirst (inlet_log i) (inlet_replies i) → IsOf (record w { inlet = i }) c
-hears_on c w i is conn known first = record { number = is.number; places = conn ∙ is.places; read_told = known; written_told = is.written_told; read_first = first }
+pub hears_on : {I O P : Type 0} {g : InGhosts I} {h : OutGhosts O} {k : ParcelGhosts P} (c : ℕ) (w : Wire I O P g h k) (i : Inlet I g) → IsOf w c → inlet_conn i ≡ inlet_conn w.inlet → KnownAs (g.got (inlet_inflow i)) (inlet_log i) → StandFirst (inlet_log i) (inlet_replies i) → All IsSpellable (inlet_replies i) → IsOf (record w { inlet = i }) c
+hears_on c w i is conn known first told = record { number = is.number; places = conn ∙ is.places; read_told = known; written_told = is.written_told; read_first = first; can_be_told = told }
 
 took_on : {I O P : Type 0} {g : InGhosts I} {h : OutGhosts O} {k : ParcelGhosts P} (x : Fate) (old new : State) (c : ℕ) (y : Reply) (w v : Wire I O P g h k) → Carries old.events c w → IsOf v c → v.outlet ≡ w.outlet → inlet_replies v.inlet ≡ taken_on old.events c ++ y ∷ [] → inlet_fault v.inlet ≡ None → TakesOrBreaks x old new c y → Fares x new.events c v
 took_on fate.Stands old new c y w v d is same more sound t =
@@ -74,9 +75,9 @@ follows_on (Err (Gather f)) x old new c w v d is same s t = broke_on x old new c
 follows_on (Err (Garbled f)) x old new c w v d is same s t = broke_on x old new c cause.Garbled w v d is same (inl s) t
 follows_on (Err NoMemory) x old new c w v d is same s t = broke_on x old new c cause.NoMemory w v d is same (inl s) t
 
-pub hears : {I O P : Type 0} {g : InGhosts I} {h : OutGhosts O} {k : ParcelGhosts P} (got : Result InGot InFault) (x : Fate) (old new : State) (c : ℕ) (w : Wire I O P g h k) (i : Inlet I g) → Carries old.events c w → inlet_conn i ≡ inlet_conn w.inlet → KnownAs (g.got (inlet_inflow i)) (inlet_log i) → StandFirst (inlet_log i) (inlet_replies i) → Shows got (inlet_replies w.inlet) i → Follows got x old new c → Fares x new.events c (record w { inlet = i })
-hears got x old new c w i d conn known first s t =
-    follows_on got x old new c w (record w { inlet = i }) d (hears_on c w i d.is_of conn known first) refl (subst (λ (ys : List Reply). Shows got ys i) d.answered s) t
+pub hears : {I O P : Type 0} {g : InGhosts I} {h : OutGhosts O} {k : ParcelGhosts P} (got : Result InGot InFault) (x : Fate) (old new : State) (c : ℕ) (w : Wire I O P g h k) (i : Inlet I g) → Carries old.events c w → inlet_conn i ≡ inlet_conn w.inlet → KnownAs (g.got (inlet_inflow i)) (inlet_log i) → StandFirst (inlet_log i) (inlet_replies i) → All IsSpellable (inlet_replies i) → Shows got (inlet_replies w.inlet) i → Follows got x old new c → Fares x new.events c (record w { inlet = i })
+hears got x old new c w i d conn known first told s t =
+    follows_on got x old new c w (record w { inlet = i }) d (hears_on c w i d.is_of conn known first told) refl (subst (λ (ys : List Reply). Shows got ys i) d.answered s) t
 
 -- what came is at the next place
 pub next_here : {I : Type 0} {g : InGhosts I} (got : Result InGot InFault) (before : List Reply) (c n : ℕ) (i : Inlet I g) → inlet_conn i ≡ c → n ≡ length before → Shows got before i → IsNextHere got c n
@@ -153,7 +154,7 @@ put_something u js c s w (inl h) = h s
 put_something u js c s w (inr h) = none_due (due u js w.0) w.1 (h w.0)
 
 pub says_on : {I O P : Type 0} {g : InGhosts I} {h : OutGhosts O} {k : ParcelGhosts P} (c : ℕ) (w : Wire I O P g h k) (o : Outlet O P h k) → IsOf w c → KnownAs (h.put (outlet_outflow o)) (outlet_log o) → IsOf (record w { outlet = o }) c
-says_on c w o is known = record { number = is.number; places = is.places; read_told = is.read_told; written_told = known; read_first = is.read_first }
+says_on c w o is known = record { number = is.number; places = is.places; read_told = is.read_told; written_told = known; read_first = is.read_first; can_be_told = is.can_be_told }
 
 -- the first bytes of a request behind all those before it
 begins_with : {I O P : Type 0} {g : InGhosts I} {h : OutGhosts O} {k : ParcelGhosts P} (js : List Event) (c p n : ℕ) (r : Request) (w : Wire I O P g h k) (log : List ℕ) → Carries js c w → log ≡ outlet_log w.outlet ++ take n (fragment true (spelled r)) → IsPrefix log (written (put_on (Put c p r ∷ js) c))

@@ -1,5 +1,5 @@
 -- What went over a connection, beside what the journal says of it: a connection that stands, and one that broke. (own)
-use Rattle.std.specs.Prelude.{◌≡◌, ℕ, suc, true, List, [], ◌∷◌, ◌++◌, length, Some, None}
+use Rattle.std.specs.Prelude.{◌≡◌, ℕ, suc, true, List, [], ◌∷◌, ◌++◌, All, length, Some, None}
 use Rattle.std.specs.List.{flat_map}
 use Rattle.n41_record.specs.Fragments.{fragment}
 use Rattle.n41_record.specs.Streams.{Records}
@@ -13,6 +13,7 @@ use Rattle.n41_journal.specs.declared.events.Cause.{Cause}
 use Rattle.n41_journal.specs.declared.events.Event.{Event}
 use Rattle.n41_journal.specs.declared.events.Event.TheVariants.{Broke}
 use Rattle.n41_model.specs.Requests.{standing, takes}
+use Rattle.n41_replies.specs.Replies.{IsSpellable}
 use Rattle.n41_requests.specs.Requests.{spelled}
 use Rattle.n41_wire.specs.Ends.{inlet_conn, inlet_log, inlet_replies, inlet_fault, inlet_inflow, outlet_log, outlet_fault, outlet_outflow}
 use Rattle.n41_wire.specs.Logs.{StandFirst}
@@ -30,14 +31,15 @@ written rs = flat_map (λ r. fragment true (spelled r)) rs
 abbrev pub IsPrefix : List ℕ → List ℕ → Type 0
 IsPrefix xs ys = (rest : List ℕ) × (ys ≡ xs ++ rest)
 
--- The wire is of this connection. What its two ends tell is what was read and written, and what was read begins with the records of the
--- replies that were handed out.
+-- The wire is of this connection. What its two ends tell is what was read and written, what was read begins with the records of the replies
+-- that were handed out, and each of these can be written again.
 pub record IsOf {I O P : Type 0} {g : InGhosts I} {h : OutGhosts O} {k : ParcelGhosts P} (w : Wire I O P g h k) (c : ℕ) : Type 0 where
   pub number : w.conn ≡ c
   pub places : inlet_conn w.inlet ≡ c
   pub read_told : KnownAs (g.got (inlet_inflow w.inlet)) (inlet_log w.inlet)
   pub written_told : KnownAs (h.put (outlet_outflow w.outlet)) (outlet_log w.outlet)
   pub read_first : StandFirst (inlet_log w.inlet) (inlet_replies w.inlet)
+  pub can_be_told : All IsSpellable (inlet_replies w.inlet)
 
 -- The wire of a connection that stands: the requests put on it were written whole, the replies handed out were all taken, which are those
 -- taken since it was made, and neither end has met a fault.

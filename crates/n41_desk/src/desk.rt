@@ -7,6 +7,7 @@ ghost use Rattle.n41_model.specs.Calls.{command, is_built};
 ghost use Rattle.n41_model.specs.Kept.{Kept};
 ghost use Rattle.n41_model.specs.Requests.{quit, rounds};
 ghost use Rattle.n41_core.specs.Settled.{IsSettled};
+ghost use Rattle.n41_tellable.specs.Tellable.{AllTellable};
 ghost use Rattle.n41_core.specs.State.{appends};
 ghost use Rattle.n41_desk.specs.Journals.{moments};
 ghost use Rattle.n41_desk.specs.Lines.{AreWires};
@@ -166,6 +167,7 @@ where
         ensures kept { Kept (desk_state self).setup (desk_state self).events }
         ensures settled { IsSettled (desk_state self).setup.callers (desk_state self).events }
         ensures given { AreGiven (C.given result.2) (moments result.0.events) }
+        ensures tellable { AllTellable result.0.events }
     {
         self.core.kept();
         self.core.settled();

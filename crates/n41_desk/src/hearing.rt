@@ -1,9 +1,10 @@
 // What is heard on the connection that stands.
-ghost use Rattle.std.specs.Prelude.{◌≡◌, Some, None};
+ghost use Rattle.std.specs.Prelude.{◌≡◌, All, Some, None};
 ghost use Rattle.n41_link.specs.Counts.{Counts, Rose};
 ghost use Rattle.n41_link.specs.Flow.{KnownAs};
 ghost use Rattle.n41_link.specs.Heard.{capped};
 ghost use Rattle.n41_model.specs.Requests.{standing, takes};
+ghost use Rattle.n41_replies.specs.Replies.{IsSpellable};
 ghost use Rattle.n41_wire.specs.Ends.{inlet_conn, inlet_log, inlet_replies, inlet_fault, inlet_inflow};
 ghost use Rattle.n41_wire.specs.Got.{in_quiet};
 ghost use Rattle.n41_wire.specs.Logs.{StandFirst};
@@ -25,6 +26,7 @@ fn listen<I: Inflow>(alloc: Global, inlet: &mut Inlet<I>) -> Result<InGot, InFau
     ensures conn { inlet_conn inlet.new ≡ inlet_conn inlet.old }
     ensures told { KnownAs (I.got (inlet_inflow inlet.new)) (inlet_log inlet.new) }
     ensures first { StandFirst (inlet_log inlet.new) (inlet_replies inlet.new) }
+    ensures spelled { All IsSpellable (inlet_replies inlet.new) }
     ensures quiets { Counts (I.quiets (inlet_inflow inlet.old)) (I.quiets (inlet_inflow inlet.new)) (in_quiet result) }
     ensures shows { Shows result (inlet_replies inlet.old) inlet.new }
 {

@@ -5,40 +5,41 @@ use Rattle.n41_link.specs.Counts.{Counts}
 use Rattle.n41_script.specs.declared.script.Script.{Script}
 use Rattle.n41_perform.specs.declared.fault.PerformFault.{PerformFault}
 use Rattle.n41_perform.specs.declared.fault.PerformFault.TheVariants as fault
+use Rattle.n41_perform.specs.declared.printing.Print.{Print}
 use Rattle.n41_perform.specs.Performs.{ReadScript, ReadFails, Prints, Outcome, is_read_fault, is_write_fault}
 
 -- ---- a script was read
 
-pub outcome : (f : Option PerformFault) (given : ℕ → Bool) (s : Script) (left left_new taken taken_new : Option (List ℕ)) (js : List Event) → ReadScript left left_new s → Prints f given s taken taken_new js → Outcome f given left left_new taken taken_new js
-outcome None given s left left_new taken taken_new js r p = record { script = s; read = r; runs = p.0; printed = p.1 }
-outcome (Some (fault.Script line kind)) given s left left_new taken taken_new js r p = absurd p.0.ends
-outcome (Some fault.ReadFault) given s left left_new taken taken_new js r p = absurd p.0.ends
-outcome (Some fault.WriteFault) given s left left_new taken taken_new js r p = record { script = s; read = r; fault = p.0; runs = p.1; printed = p.2 }
-outcome (Some (fault.Unreachable n)) given s left left_new taken taken_new js r p = record { script = s; read = r; runs = p.0; printed = p.1 }
-outcome (Some (fault.Breach b)) given s left left_new taken taken_new js r p = record { script = s; read = r; runs = p.0; printed = p.1 }
-outcome (Some fault.NoMemory) given s left left_new taken taken_new js r p = p
+pub outcome : (shows : Print) (f : Option PerformFault) (given : ℕ → Bool) (s : Script) (left left_new taken taken_new : Option (List ℕ)) (js : List Event) → ReadScript left left_new s → Prints shows f given s taken taken_new js → Outcome shows f given left left_new taken taken_new js
+outcome shows None given s left left_new taken taken_new js r p = record { script = s; read = r; runs = p.0; printed = p.1 }
+outcome shows (Some (fault.Script line kind)) given s left left_new taken taken_new js r p = absurd p.0.ends
+outcome shows (Some fault.ReadFault) given s left left_new taken taken_new js r p = absurd p.0.ends
+outcome shows (Some fault.WriteFault) given s left left_new taken taken_new js r p = record { script = s; read = r; fault = p.0; runs = p.1; printed = p.2 }
+outcome shows (Some (fault.Unreachable n)) given s left left_new taken taken_new js r p = record { script = s; read = r; runs = p.0; printed = p.1 }
+outcome shows (Some (fault.Breach b)) given s left left_new taken taken_new js r p = record { script = s; read = r; runs = p.0; printed = p.1 }
+outcome shows (Some fault.NoMemory) given s left left_new taken taken_new js r p = p
 
-pub reads_of : (f : Option PerformFault) (given : ℕ → Bool) (s : Script) (taken taken_new : Option (List ℕ)) (js : List Event) (before now : ℕ) → Prints f given s taken taken_new js → Counts before now false → Counts before now (is_read_fault f)
-reads_of None given s taken taken_new js before now p c = c
-reads_of (Some (fault.Script line kind)) given s taken taken_new js before now p c = c
-reads_of (Some fault.ReadFault) given s taken taken_new js before now p c = absurd p.0.ends
-reads_of (Some fault.WriteFault) given s taken taken_new js before now p c = c
-reads_of (Some (fault.Unreachable n)) given s taken taken_new js before now p c = c
-reads_of (Some (fault.Breach b)) given s taken taken_new js before now p c = c
-reads_of (Some fault.NoMemory) given s taken taken_new js before now p c = c
+pub reads_of : (shows : Print) (f : Option PerformFault) (given : ℕ → Bool) (s : Script) (taken taken_new : Option (List ℕ)) (js : List Event) (before now : ℕ) → Prints shows f given s taken taken_new js → Counts before now false → Counts before now (is_read_fault f)
+reads_of shows None given s taken taken_new js before now p c = c
+reads_of shows (Some (fault.Script line kind)) given s taken taken_new js before now p c = c
+reads_of shows (Some fault.ReadFault) given s taken taken_new js before now p c = absurd p.0.ends
+reads_of shows (Some fault.WriteFault) given s taken taken_new js before now p c = c
+reads_of shows (Some (fault.Unreachable n)) given s taken taken_new js before now p c = c
+reads_of shows (Some (fault.Breach b)) given s taken taken_new js before now p c = c
+reads_of shows (Some fault.NoMemory) given s taken taken_new js before now p c = c
 
 -- ---- no script was read
 
-untouched_at : (f : PerformFault) (given : ℕ → Bool) (left left_new taken : Option (List ℕ)) → ReadFails f left left_new → Outcome (Some f) given left left_new taken taken []
-untouched_at (fault.Script line kind) given left left_new taken h = (h, record { silent = refl; none = refl })
-untouched_at fault.ReadFault given left left_new taken h = record { silent = refl; none = refl }
-untouched_at fault.WriteFault given left left_new taken h = absurd h
-untouched_at (fault.Unreachable n) given left left_new taken h = absurd h
-untouched_at (fault.Breach p) given left left_new taken h = absurd h
-untouched_at fault.NoMemory given left left_new taken h = refl
+untouched_at : (shows : Print) (f : PerformFault) (given : ℕ → Bool) (left left_new taken : Option (List ℕ)) → ReadFails f left left_new → Outcome shows (Some f) given left left_new taken taken []
+untouched_at shows (fault.Script line kind) given left left_new taken h = (h, record { silent = refl; none = refl })
+untouched_at shows fault.ReadFault given left left_new taken h = record { silent = refl; none = refl }
+untouched_at shows fault.WriteFault given left left_new taken h = absurd h
+untouched_at shows (fault.Unreachable n) given left left_new taken h = absurd h
+untouched_at shows (fault.Breach p) given left left_new taken h = absurd h
+untouched_at shows fault.NoMemory given left left_new taken h = refl
 
-pub untouched : (f : PerformFault) (g : Option PerformFault) (given : ℕ → Bool) (left left_new taken : Option (List ℕ)) (js : List Event) → g ≡ Some f → js ≡ [] → ReadFails f left left_new → Outcome g given left left_new taken taken js
-untouched f g given left left_new taken js e n h = rw (e, n) (untouched_at f given left left_new taken h)
+pub untouched : (shows : Print) (f : PerformFault) (g : Option PerformFault) (given : ℕ → Bool) (left left_new taken : Option (List ℕ)) (js : List Event) → g ≡ Some f → js ≡ [] → ReadFails f left left_new → Outcome shows g given left left_new taken taken js
+untouched shows f g given left left_new taken js e n h = rw (e, n) (untouched_at shows f given left left_new taken h)
 
 counts_none : (n : ℕ) → Counts n n false
 counts_none n = record { later = omega arith; rose = λ e. absurd (cc) }

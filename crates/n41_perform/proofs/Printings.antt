@@ -1,5 +1,6 @@
 -- What was printed, where the sink failed.
-use Rattle.std.proofs.Common.{◌≡◌, ℕ, List, Option, take, drop, sym, ◌∙◌, ap, subst, take-append-drop}
+use Rattle.std.proofs.Common.{◌≡◌, ℕ, List, Option, Result, take, drop, sym, ◌∙◌, ap, subst, take-append-drop}
+use Rattle.std.specs.Prelude.{IfErr}
 use Rattle.std.specs.Io.KnownBytes.{append_known}
 use Rattle.n41_journal.specs.declared.events.Event.{Event}
 use Rattle.n41_model.specs.Answers.{breach_at}
@@ -8,12 +9,16 @@ use Rattle.n41_report.specs.Laws.{IsTextOfRun}
 use Rattle.n41_report.specs.Text.{script_lines, script_text}
 use Rattle.n41_script.specs.declared.script.Script.{Script}
 use Rattle.n41_streams.specs.Streams.{TookPart}
+use Rattle.n41_perform.specs.declared.fault.PerformFault.{PerformFault}
+use Rattle.n41_perform.specs.Performs.{PrintFails}
 
 pub took_part : (old new : Option (List ℕ)) (bytes : List ℕ) → ((n : ℕ) × (new ≡ append_known old (take n bytes))) → TookPart old new bytes
 took_part old new bytes h = record { part = take h.0 bytes; more = drop h.0 bytes; cut = sym (take-append-drop h.0 bytes); took = h.1 }
 
--- the same, of the text that was made for a journal and a script
-pub took_part_of : (law : IsTextOfRun) (old new : Option (List ℕ)) (bytes : List ℕ) (breach : Option ℕ) (js : List Event) (s : Script) → breach ≡ breach_at js → bytes ≡ script_text breach js s
-    → ((n : ℕ) × (new ≡ append_known old (take n bytes))) → TookPart old new (text js (script_lines s))
-took_part_of law old new bytes breach js s e f h =
-    subst (λ (t : List ℕ). TookPart old new t) (f ∙ ap (λ (b : Option ℕ). script_text b js s) e ∙ law js s) (took_part old new bytes h)
+-- the text that was made for a journal and a script
+pub text_is : (law : IsTextOfRun) (bytes : List ℕ) (breach : Option ℕ) (js : List Event) (s : Script) → breach ≡ breach_at js → bytes ≡ script_text breach js s → bytes ≡ text js (script_lines s)
+text_is law bytes breach js s e f = f ∙ ap (λ (b : Option ℕ). script_text b js s) e ∙ law js s
+
+-- why not all of one text was printed is why not all of the same was
+pub fails_as : {T : Type 0} (r : Result T PerformFault) (old new : Option (List ℕ)) (a b : List ℕ) → a ≡ b → IfErr r (λ f. PrintFails f old new a) → IfErr r (λ f. PrintFails f old new b)
+fails_as r old new a b e h = subst (λ (x : List ℕ). IfErr r (λ f. PrintFails f old new x)) e h

@@ -1,5 +1,5 @@
 -- A script that is run against a server: what was read, done and printed. (own)
-use Rattle.std.specs.Prelude.{◌≡◌, ◌≤◌, ◌<◌, ◌⊎◌, ◌++◌, ℕ, Bool, true, false, List, [], length, max, nat_le, if◌then◌else◌, Result, Err, Some, None}
+use Rattle.std.specs.Prelude.{◌≡◌, ◌≤◌, ◌<◌, ◌⊎◌, ◌++◌, ℕ, Bool, true, false, List, [], length, reverse, max, nat_le, if◌then◌else◌, Result, Err, Some, None}
 use Rattle.std.specs.declared.option.Option.{Option}
 use Rattle.std.specs.Io.KnownBytes.{append_known}
 use Rattle.n41_xdr.specs.Spelling.{hyper}
@@ -21,12 +21,20 @@ use Rattle.n41_words.specs.declared.fault.LineKind.TheVariants.{Limit}
 use Rattle.n41_words.specs.declared.fault.ScriptFault.{ScriptFault}
 use Rattle.n41_words.specs.declared.fault.ScriptFault.TheVariants as refused
 use Rattle.n41_report.specs.Text.{script_lines}
+use Rattle.n41_journal_text.specs.Text.{journal_lines}
 use Rattle.n41_streams.specs.declared.reading.ReadFault.{ReadFault}
 use Rattle.n41_streams.specs.declared.reading.ReadFault.TheVariants as unread
 use Rattle.n41_streams.specs.Streams.{IsRead, IsTooLong, TookPart}
 use Rattle.n41_drive.specs.Drives.{Driven}
 use Rattle.n41_perform.specs.declared.fault.PerformFault.{PerformFault}
 use Rattle.n41_perform.specs.declared.fault.PerformFault.TheVariants as fault
+use Rattle.n41_perform.specs.declared.printing.Print.{Print}
+use Rattle.n41_perform.specs.declared.printing.Print.TheVariants as print
+
+-- what is printed of a run: a line for each command of the script, or one for each event, the oldest first
+abbrev pub shown : Print → List Event → Script → List ℕ
+shown print.Answers js s = text js (script_lines s)
+shown print.Journal js s = journal_lines (reverse js)
 
 -- a client for so many callers, at least one
 abbrev pub callers_of : Script → ℕ
@@ -127,26 +135,26 @@ abbrev pub RunsTo : Option PerformFault → (ℕ → Bool) → Script → List E
 RunsTo (Some fault.NoMemory) given s js = Unit {0}
 RunsTo f given s js = Runs given s js f
 
--- a script was read and run, and all its answers were printed
-pub record Performed (given : ℕ → Bool) (left left_new taken taken_new : Option (List ℕ)) (js : List Event) (f : Option PerformFault) : Type 0 where
+-- a script was read and run, and all that was to be shown was printed
+pub record Performed (shows : Print) (given : ℕ → Bool) (left left_new taken taken_new : Option (List ℕ)) (js : List Event) (f : Option PerformFault) : Type 0 where
   pub script : Script
   pub read : ReadScript left left_new script
   pub runs : Runs given script js f
-  pub printed : taken_new ≡ append_known taken (text js (script_lines script))
+  pub printed : taken_new ≡ append_known taken (shown shows js script)
 
--- the same, and a part of its answers was printed
-pub record PartlyPerformed (given : ℕ → Bool) (left left_new taken taken_new : Option (List ℕ)) (js : List Event) : Type 0 where
+-- the same, and a part of it was printed
+pub record PartlyPerformed (shows : Print) (given : ℕ → Bool) (left left_new taken taken_new : Option (List ℕ)) (js : List Event) : Type 0 where
   pub script : Script
   pub read : ReadScript left left_new script
   pub fault : Option PerformFault
   pub runs : Runs given script js fault
-  pub printed : TookPart taken taken_new (text js (script_lines script))
+  pub printed : TookPart taken taken_new (shown shows js script)
 
--- a script was run, and its answers were printed, by the fault; nothing was printed where memory was wanting
-abbrev pub Prints : Option PerformFault → (ℕ → Bool) → Script → Option (List ℕ) → Option (List ℕ) → List Event → Type 0
-Prints (Some fault.WriteFault) given s taken taken_new js = (f : Option PerformFault) × Runs given s js f × TookPart taken taken_new (text js (script_lines s))
-Prints (Some fault.NoMemory) given s taken taken_new js = taken_new ≡ taken
-Prints f given s taken taken_new js = Runs given s js f × (taken_new ≡ append_known taken (text js (script_lines s)))
+-- a script was run, and what was to be shown was printed, by the fault; nothing was printed where memory was wanting
+abbrev pub Prints : Print → Option PerformFault → (ℕ → Bool) → Script → Option (List ℕ) → Option (List ℕ) → List Event → Type 0
+Prints shows (Some fault.WriteFault) given s taken taken_new js = (f : Option PerformFault) × Runs given s js f × TookPart taken taken_new (shown shows js s)
+Prints shows (Some fault.NoMemory) given s taken taken_new js = taken_new ≡ taken
+Prints shows f given s taken taken_new js = Runs given s js f × (taken_new ≡ append_known taken (shown shows js s))
 
 -- there was no script to run, so nothing was done
 pub record IsUntouched (taken taken_new : Option (List ℕ)) (js : List Event) : Type 0 where
@@ -154,14 +162,14 @@ pub record IsUntouched (taken taken_new : Option (List ℕ)) (js : List Event) :
   pub none : js ≡ []
 
 -- what was read, done and printed, by the fault; nothing was printed where memory was wanting
-abbrev pub Outcome : Option PerformFault → (ℕ → Bool) → Option (List ℕ) → Option (List ℕ) → Option (List ℕ) → Option (List ℕ) → List Event → Type 0
-Outcome (Some (fault.Script line kind)) given left left_new taken taken_new js = RefusedSource left left_new line kind × IsUntouched taken taken_new js
-Outcome (Some fault.ReadFault) given left left_new taken taken_new js = IsUntouched taken taken_new js
-Outcome (Some fault.WriteFault) given left left_new taken taken_new js = PartlyPerformed given left left_new taken taken_new js
-Outcome (Some (fault.Unreachable n)) given left left_new taken taken_new js = Performed given left left_new taken taken_new js (Some (fault.Unreachable n))
-Outcome (Some (fault.Breach p)) given left left_new taken taken_new js = Performed given left left_new taken taken_new js (Some (fault.Breach p))
-Outcome (Some fault.NoMemory) given left left_new taken taken_new js = taken_new ≡ taken
-Outcome None given left left_new taken taken_new js = Performed given left left_new taken taken_new js None
+abbrev pub Outcome : Print → Option PerformFault → (ℕ → Bool) → Option (List ℕ) → Option (List ℕ) → Option (List ℕ) → Option (List ℕ) → List Event → Type 0
+Outcome shows (Some (fault.Script line kind)) given left left_new taken taken_new js = RefusedSource left left_new line kind × IsUntouched taken taken_new js
+Outcome shows (Some fault.ReadFault) given left left_new taken taken_new js = IsUntouched taken taken_new js
+Outcome shows (Some fault.WriteFault) given left left_new taken taken_new js = PartlyPerformed shows given left left_new taken taken_new js
+Outcome shows (Some (fault.Unreachable n)) given left left_new taken taken_new js = Performed shows given left left_new taken taken_new js (Some (fault.Unreachable n))
+Outcome shows (Some (fault.Breach p)) given left left_new taken taken_new js = Performed shows given left left_new taken taken_new js (Some (fault.Breach p))
+Outcome shows (Some fault.NoMemory) given left left_new taken taken_new js = taken_new ≡ taken
+Outcome shows None given left left_new taken taken_new js = Performed shows given left left_new taken taken_new js None
 
 abbrev pub is_read_fault : Option PerformFault → Bool
 is_read_fault (Some fault.ReadFault) = true

@@ -1,4 +1,4 @@
-//! A script that is run against a server: it is read from a source, driven, and its answers are printed to a sink.
+//! A script that is run against a server: it is read from a source, driven, and its answers or its journal are printed to a sink.
 #![tactic(auto)]
 
 mod client;
@@ -10,3 +10,4 @@ mod running;
 
 pub use fault::PerformFault;
 pub use performing::{Performed, perform};
+pub use printing::Print;

@@ -1,6 +1,7 @@
 // The call.
 ghost use Rattle.std.specs.Prelude.{◌≡◌, ◌≤◌, ℕ, Bool, [], length, Some};
 ghost use Rattle.n41_link.specs.Counts.{Counts};
+ghost use Rattle.n41_tellable.specs.Tellable.{AllTellable};
 ghost use Rattle.n41_model.specs.declared.words.Setup.{Setup as SetupValue};
 ghost use Rattle.n41_model.specs.Answers.{breach_at};
 ghost use Rattle.n41_desk.specs.Journals.{moments};
@@ -10,7 +11,7 @@ ghost use Rattle.n41_drive.specs.Drives.{AreBuilt};
 ghost use Rattle.n41_perform.specs.Performs.{AlwaysGood, AlwaysOneOut, IsWhole, Outcome, Prints, RunsTo, is_read_fault, is_write_fault};
 
 use crate::PerformFault;
-use crate::printing::print;
+use crate::printing::{Print, show};
 use crate::reading::read;
 use crate::running::{Ran, run_script};
 use n41_core::Packet;
@@ -60,34 +61,37 @@ where
     }
 }
 
-/// Prints the answers of a run, and gives the fault of the whole. Where memory was wanting for the run, nothing is printed.
+/// Prints what is to be shown of a run, and gives the fault of the whole. Where memory was wanting for the run, nothing is printed.
 fn print_run<K: Sink>(
     alloc: Global,
+    shows: Print,
     sink: &mut K,
     journal: &Journal,
     script: &Script,
     breach: Option<u64>,
     fault: Option<PerformFault>,
 ) -> Option<PerformFault>
-    requires { breach ≡ breach_at journal.now.events }
-    ensures prints { (given : ℕ → Bool) → RunsTo fault given script.now journal.now.events → Prints result given script.now (K.taken sink.old) (K.taken sink.new) journal.now.events }
+    requires breach { breach ≡ breach_at journal.now.events }
+    requires tellable { AllTellable journal.now.events }
+    ensures prints { (given : ℕ → Bool) → RunsTo fault given script.now journal.now.events → Prints shows result given script.now (K.taken sink.old) (K.taken sink.new) journal.now.events }
     ensures writes { (given : ℕ → Bool) → RunsTo fault given script.now journal.now.events → Counts (K.faults sink.old) (K.faults sink.new) (is_write_fault result) }
 {
     if let Some(PerformFault::NoMemory) = fault {
         return fault;
     }
-    match print(alloc, sink, journal, script, breach) {
+    match show(alloc, shows, sink, journal, script, breach) {
         Ok(()) => fault,
         Err(other) => Some(other),
     }
 }
 
-/// Runs a script that was read, and prints its answers. Where memory is wanting for the run, nothing is printed.
+/// Runs a script that was read, and prints what is to be shown. Where memory is wanting for the run, nothing is printed.
 fn perform_script<R: Wait, K: Sink, D: Dialer, C: Clock>(
     rt: &R,
     alloc: Global,
     addr: &str,
     script: &Script,
+    shows: Print,
     sink: &mut K,
     dialer: D,
     clock: C,
@@ -98,7 +102,7 @@ where
     requires few { length script.now.callers ≤ 64 }
     requires owner { length script.now.owner ≤ 1024 }
     requires built { AreBuilt script.now.lines }
-    ensures prints { Prints result.fault (C.given result.clock) script.now (K.taken sink.old) (K.taken sink.new) result.journal.events }
+    ensures prints { Prints shows result.fault (C.given result.clock) script.now (K.taken sink.old) (K.taken sink.new) result.journal.events }
     ensures wires { AreWires result.journal.events result.wires.items }
     ensures given { AreGiven (C.given result.clock) (moments result.journal.events) }
     ensures whole { (setup : SetupValue) × IsWhole setup result.journal.events }
@@ -107,7 +111,15 @@ where
     ensures tells { C.tells result.clock ≡ C.tells clock }
 {
     let ran = run_script(rt, alloc, addr, script, dialer, clock);
-    let fault = print_run(alloc, sink, &ran.journal, script, ran.breach, ran.fault);
+    let fault = print_run(
+        alloc,
+        shows,
+        sink,
+        &ran.journal,
+        script,
+        ran.breach,
+        ran.fault,
+    );
     let Ran {
         journal,
         dialer,
@@ -124,12 +136,13 @@ where
     }
 }
 
-/// Reads a script from the source, runs it against the server at the address, and prints its answers to the sink.
+/// Reads a script from the source, runs it against the server at the address, and prints its answers or its journal to the sink.
 pub fn perform<R: Wait, S: Source, K: Sink, D: Dialer, C: Clock>(
     rt: &R,
     alloc: Global,
     addr: &str,
     source: &mut S,
+    shows: Print,
     sink: &mut K,
     dialer: D,
     clock: C,
@@ -137,7 +150,7 @@ pub fn perform<R: Wait, S: Source, K: Sink, D: Dialer, C: Clock>(
 where
     D::I: Drop,
     D::O: Drop,
-    ensures outcome { Outcome result.fault (C.given result.clock) (S.left source.old) (S.left source.new) (K.taken sink.old) (K.taken sink.new) result.journal.events }
+    ensures outcome { Outcome shows result.fault (C.given result.clock) (S.left source.old) (S.left source.new) (K.taken sink.old) (K.taken sink.new) result.journal.events }
     ensures wires { AreWires result.journal.events result.wires.items }
     ensures given { AreGiven (C.given result.clock) (moments result.journal.events) }
     ensures whole { (setup : SetupValue) × IsWhole setup result.journal.events }
@@ -151,7 +164,7 @@ where
     one_request_is_out();
     a_change_takes_effect_once();
     match read(alloc, source) {
-        Ok(script) => perform_script(rt, alloc, addr, &script, sink, dialer, clock),
+        Ok(script) => perform_script(rt, alloc, addr, &script, shows, sink, dialer, clock),
         Err(fault) => untouched(alloc, fault, dialer, clock),
     }
 }

@@ -1,5 +1,6 @@
 // The run of a script that was read.
 ghost use Rattle.std.specs.Prelude.{◌≡◌, ◌≤◌, ℕ, [], length, Some, None, OnOk, OnErr, IsTrue};
+ghost use Rattle.n41_tellable.specs.Tellable.{AllTellable};
 ghost use Rattle.n41_model.specs.declared.words.Setup.{Setup as SetupValue};
 ghost use Rattle.n41_model.specs.Answers.{breach_at};
 ghost use Rattle.n41_model.specs.Requests.{rounds as silent_rounds};
@@ -60,6 +61,7 @@ where
     ensures breach { result.breach ≡ None }
     ensures journal { result.journal.events ≡ [] }
     ensures wires { AreWires [] result.wires.items }
+    ensures tellable { AllTellable result.journal.events }
     ensures dialer { result.dialer ≡ dialer }
     ensures clock { result.clock ≡ clock }
 {
@@ -85,6 +87,7 @@ where
     ensures wires { AreWires result.journal.events result.wires.items }
     ensures given { AreGiven (C.given result.clock) (moments result.journal.events) }
     ensures whole { IsWhole (desk_state desk).setup result.journal.events }
+    ensures tellable { AllTellable result.journal.events }
     ensures dialer { result.dialer ≡ desk_dialer desk }
     ensures clock { result.clock ≡ desk_clock desk }
 {
@@ -139,6 +142,7 @@ where
     ensures wires { AreWires result.journal.events result.wires.items }
     ensures given { AreGiven (C.given result.clock) (moments result.journal.events) }
     ensures whole { IsWhole core.setup result.journal.events }
+    ensures tellable { AllTellable result.journal.events }
     ensures dials { CountsDials [] result.journal.events (D.faults dialer) (D.faults result.dialer) }
     ensures tells { C.tells result.clock ≡ C.tells clock }
 {
@@ -169,6 +173,7 @@ where
     ensures wires { AreWires result.journal.events result.wires.items }
     ensures given { AreGiven (C.given result.clock) (moments result.journal.events) }
     ensures whole { (setup : SetupValue) × IsWhole setup result.journal.events }
+    ensures tellable { AllTellable result.journal.events }
     ensures dials { CountsDials [] result.journal.events (D.faults dialer) (D.faults result.dialer) }
     ensures tells { C.tells result.clock ≡ C.tells clock }
 {

@@ -10,13 +10,16 @@ use Rattle.n41_perform.specs.declared.fault.PerformFault.TheVariants as perform
 use Rattle.n41_run.specs.declared.fault.RunFault.{RunFault}
 use Rattle.n41_run.specs.declared.fault.RunFault.TheVariants.{Words, Script, ReadFault, WriteFault, Unreachable, Breach, NoMemory}
 use Rattle.n41_run.specs.declared.words.Verb.{Verb}
-use Rattle.n41_run.specs.declared.words.Verb.TheVariants.{Run, Dump}
+use Rattle.n41_run.specs.declared.words.Verb.TheVariants.{Run, Trace, Dump}
 use Rattle.n41_run.specs.Causes.{status, IsOfProbe}
-use Rattle.n41_run.specs.Finishes.{AsksDump, AsksRun, dump_fault, of_perform}
+use Rattle.n41_run.specs.Finishes.{AsksDump, AsksRun, AsksTrace, dump_fault, of_perform}
 use Rattle.n41_run.specs.Words.{IsAddress, side_text, verb_text}
 
 pub run_asked : (words : List (List ℕ)) (v : Verb) (word : List ℕ) → words ≡ verb_text v ∷ (word ∷ []) → v ≡ Run → IsAddress word → AsksRun words word
 run_asked words v word e q i = (i, e ∙ ap (λ (u : Verb). verb_text u ∷ (word ∷ [])) q)
+
+pub trace_asked : (words : List (List ℕ)) (v : Verb) (word : List ℕ) → words ≡ verb_text v ∷ (word ∷ []) → v ≡ Trace → IsAddress word → AsksTrace words word
+trace_asked words v word e q i = (i, e ∙ ap (λ (u : Verb). verb_text u ∷ (word ∷ [])) q)
 
 pub dump_asked : (words : List (List ℕ)) (v : Verb) (word : List ℕ) (s : Side) → words ≡ verb_text v ∷ (word ∷ []) → v ≡ Dump → word ≡ side_text s → AsksDump words s
 dump_asked words v word s e q d = e ∙ ap (λ (u : Verb). verb_text u ∷ (word ∷ [])) q ∙ ap (λ (w : List ℕ). codes "dump" ∷ (w ∷ [])) d

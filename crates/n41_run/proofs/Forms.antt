@@ -6,7 +6,7 @@ use Rattle.n41_run.specs.declared.words.Command.{Command}
 use Rattle.n41_run.specs.declared.words.Command.TheVariants as asks
 use Rattle.n41_run.specs.Asked.{Takes}
 use Rattle.n41_run.specs.declared.words.Verb.{Verb}
-use Rattle.n41_run.specs.declared.words.Verb.TheVariants.{Probe, Run, Dump}
+use Rattle.n41_run.specs.declared.words.Verb.TheVariants.{Probe, Run, Trace, Dump}
 use Rattle.n41_run.specs.Words.{IsPort, IsAddress, IsVerb, IsOperand, IsForm, BeginsForm, IsFirstBad, verb_text}
 
 a_port : IsPort (codes "1")
@@ -19,17 +19,25 @@ an_address = record { host = codes "x"; port = codes "1"; some_host = lit< tt; l
 operand_of : (v : Verb) → (word : List ℕ) × IsOperand v word
 operand_of Probe = (codes "x:1", an_address)
 operand_of Run = (codes "x:1", an_address)
+operand_of Trace = (codes "x:1", an_address)
 operand_of Dump = (codes "client", (Client, refl))
 
 same_verb : (a b : Verb) → verb_text a ≡ verb_text b → a ≡ b
 same_verb Probe Probe e = refl
 same_verb Probe Run e = cc e
+same_verb Probe Trace e = cc e
 same_verb Probe Dump e = cc e
 same_verb Run Probe e = cc e
 same_verb Run Run e = refl
+same_verb Run Trace e = cc e
 same_verb Run Dump e = cc e
+same_verb Trace Probe e = cc e
+same_verb Trace Run e = cc e
+same_verb Trace Trace e = refl
+same_verb Trace Dump e = cc e
 same_verb Dump Probe e = cc e
 same_verb Dump Run e = cc e
+same_verb Dump Trace e = cc e
 same_verb Dump Dump e = refl
 
 form : (v : Verb) (a : List ℕ) → IsOperand v a → IsForm (verb_text v ∷ (a ∷ []))
@@ -117,6 +125,7 @@ more_bad v a (m ∷ more) fits some = third_word v a (string_bytes m) (map strin
 pub taken_fits : (v : Verb) (word : List ℕ) (c : Command) → Takes v word c → IsOperand v word
 taken_fits v word (asks.Probe a) t = subst (λ (u : Verb). IsOperand u word) (sym t.0) t.1
 taken_fits v word (asks.Run a) t = subst (λ (u : Verb). IsOperand u word) (sym t.0) t.1
+taken_fits v word (asks.Trace a) t = subst (λ (u : Verb). IsOperand u word) (sym t.0) t.1
 taken_fits v word (asks.Dump s) t = subst (λ (u : Verb). IsOperand u word) (sym t.0) (s, t.1)
 
 pub same_fits : (v : Verb) (a b : List ℕ) → a ≡ b → IsOperand v a → IsOperand v b

@@ -18,6 +18,7 @@ use Rattle.n41_desk.specs.Moments.{AreGiven, CountsDials}
 use Rattle.n41_perform.specs.Performs.{AlwaysGood, AlwaysOneOut, IsWhole, Outcome, is_read_fault, is_write_fault}
 use Rattle.n41_perform.specs.declared.fault.PerformFault.{PerformFault}
 use Rattle.n41_perform.specs.declared.fault.PerformFault.TheVariants as perform
+use Rattle.n41_perform.specs.declared.printing.Print.{Print}
 use Rattle.n41_lines.specs.declared.side.Side.{Side}
 use Rattle.n41_dump.specs.Causes as dumps
 use Rattle.n41_dump.specs.declared.fault.DumpFault.{DumpFault}
@@ -39,6 +40,9 @@ AsksProbe words address = IsAddress address × (words ≡ codes "probe" ∷ (add
 
 abbrev pub AsksRun : List (List ℕ) → List ℕ → Type 0
 AsksRun words address = IsAddress address × (words ≡ codes "run" ∷ (address ∷ []))
+
+abbrev pub AsksTrace : List (List ℕ) → List ℕ → Type 0
+AsksTrace words address = IsAddress address × (words ≡ codes "trace" ∷ (address ∷ []))
 
 abbrev pub AsksDump : List (List ℕ) → Side → Type 0
 AsksDump words side = words ≡ codes "dump" ∷ (side_text side ∷ [])
@@ -101,11 +105,11 @@ pub record ProbeEnds {I O : Type 0} {g : InGhosts I} {h : OutGhosts O} (fault : 
   pub wrong : status fault ≡ 7 → IsSomeAnd probed (λ talk. HearsNone (ear_log talk.ear))
   pub silent : 5 < status fault → taken_new ≡ taken
 
--- what a script that was run leaves
-pub record RunEnds {I O P : Type 0} {g : InGhosts I} {h : OutGhosts O} {k : ParcelGhosts P} (fault : Option RunFault) (js : List Event) (wires : List (Wire I O P g h k)) (given : ℕ → Bool) (dialed dialed_new : ℕ) (left left_new : Option (List ℕ)) (read read_new : ℕ) (taken taken_new : Option (List ℕ)) (wrote wrote_new : ℕ) : Type 0 where
+-- what a script that was run leaves, where its answers or its journal are shown
+pub record RunEnds {I O P : Type 0} {g : InGhosts I} {h : OutGhosts O} {k : ParcelGhosts P} (shows : Print) (fault : Option RunFault) (js : List Event) (wires : List (Wire I O P g h k)) (given : ℕ → Bool) (dialed dialed_new : ℕ) (left left_new : Option (List ℕ)) (read read_new : ℕ) (taken taken_new : Option (List ℕ)) (wrote wrote_new : ℕ) : Type 0 where
   pub cause : Option PerformFault
   pub fault_is : fault ≡ option_map of_perform cause
-  pub outcome : Outcome cause given left left_new taken taken_new js
+  pub outcome : Outcome shows cause given left left_new taken taken_new js
   pub whole : (u : Setup) × IsWhole u js
   pub one_out : AlwaysOneOut js
   pub good : AlwaysGood js

@@ -4,7 +4,7 @@ use Rattle.std.specs.Fmt.{decimal}
 use Rattle.n41_lines.specs.declared.side.Side.{Side}
 use Rattle.n41_lines.specs.declared.side.Side.TheVariants.{Client, Server}
 use Rattle.n41_run.specs.declared.words.Verb.{Verb}
-use Rattle.n41_run.specs.declared.words.Verb.TheVariants.{Probe, Run, Dump}
+use Rattle.n41_run.specs.declared.words.Verb.TheVariants.{Probe, Run, Trace, Dump}
 
 -- a port: the decimal numeral of a number from 1 to 65535
 pub record IsPort (bytes : List ℕ) : Type 0 where
@@ -24,6 +24,7 @@ pub record IsAddress (bytes : List ℕ) : Type 0 where
 abbrev pub verb_text : Verb → List ℕ
 verb_text Probe = codes "probe"
 verb_text Run = codes "run"
+verb_text Trace = codes "trace"
 verb_text Dump = codes "dump"
 
 abbrev pub side_text : Side → List ℕ
@@ -34,10 +35,11 @@ side_text Server = codes "server"
 abbrev pub IsVerb : List ℕ → Type 0
 IsVerb word = (verb : Verb) × (word ≡ verb_text verb)
 
--- what may stand behind it: probe ADDR, run ADDR, dump client, dump server
+-- what may stand behind it: probe ADDR, run ADDR, trace ADDR, dump client, dump server
 abbrev pub IsOperand : Verb → List ℕ → Type 0
 IsOperand Probe word = IsAddress word
 IsOperand Run word = IsAddress word
+IsOperand Trace word = IsAddress word
 IsOperand Dump word = (side : Side) × (word ≡ side_text side)
 
 -- the words are one of the forms

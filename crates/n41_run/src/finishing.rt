@@ -7,7 +7,7 @@ use crate::{Finish, RunFault, dump, probe};
 use n41_journal::Journal;
 use n41_lines::Side;
 use n41_link::{Clock, Dialer, Listener, Sink, Source};
-use n41_perform::{PerformFault, Performed, perform};
+use n41_perform::{PerformFault, Performed, Print, perform};
 use std::alloc::Global;
 use std::sync::Wait;
 
@@ -104,12 +104,13 @@ pub(crate) fn finish_probe<K: Sink, D: Dialer, H: Listener, C: Clock>(
     }
 }
 
-/// A script, run against the server.
+/// A script, run against the server; its answers or its journal are printed.
 pub(crate) fn finish_script<R: Wait, S: Source, K: Sink, D: Dialer, H: Listener, C: Clock>(
     rt: &R,
     alloc: Global,
     addr: &str,
     source: &mut S,
+    shows: Print,
     sink: &mut K,
     dialer: D,
     house: H,
@@ -119,7 +120,7 @@ where
     D::I: Drop,
     D::O: Drop,
     ensures status { result.status ≡ status result.fault }
-    ensures ends { RunEnds result.fault result.journal.events result.wires.items (C.given result.clock) (D.faults dialer) (D.faults result.dialer) (S.left source.old) (S.left source.new) (S.faults source.old) (S.faults source.new) (K.taken sink.old) (K.taken sink.new) (K.faults sink.old) (K.faults sink.new) }
+    ensures ends { RunEnds shows result.fault result.journal.events result.wires.items (C.given result.clock) (D.faults dialer) (D.faults result.dialer) (S.left source.old) (S.left source.new) (S.faults source.old) (S.faults source.new) (K.taken sink.old) (K.taken sink.new) (K.faults sink.old) (K.faults sink.new) }
     ensures no_link { IsNone result.probed }
     ensures house { result.house ≡ house }
 {
@@ -129,7 +130,7 @@ where
         dialer,
         clock,
         wires,
-    } = perform(rt, alloc, addr, source, sink, dialer, clock);
+    } = perform(rt, alloc, addr, source, shows, sink, dialer, clock);
     let fault = match fault {
         None => None,
         Some(fault) => Some(fault_of(fault)),

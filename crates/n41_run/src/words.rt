@@ -10,8 +10,10 @@ use n41_lines::Side;
 pub enum Command<'a> {
     /// One exchange with the server at this address.
     Probe(&'a str),
-    /// The script on the input, run against the server at this address.
+    /// The script on the input, run against the server at this address; the answers are printed.
     Run(&'a str),
+    /// The same, but the journal is printed.
+    Trace(&'a str),
     /// A line for each record of the input, which this side of a connection wrote.
     Dump(Side),
 }
@@ -21,6 +23,7 @@ pub enum Command<'a> {
 pub(crate) enum Verb {
     Probe,
     Run,
+    Trace,
     Dump,
 }
 
@@ -31,6 +34,7 @@ fn verb_of(word: &str) -> Option<Verb>
     match word {
         "probe" => Some(Verb::Probe),
         "run" => Some(Verb::Run),
+        "trace" => Some(Verb::Trace),
         "dump" => Some(Verb::Dump),
         _ => None,
     }
@@ -83,6 +87,7 @@ fn command_with(verb: Verb, word: &str) -> Option<Command<'_>>
     match verb {
         Verb::Probe if is_address(word) => Some(Command::Probe(word)),
         Verb::Run if is_address(word) => Some(Command::Run(word)),
+        Verb::Trace if is_address(word) => Some(Command::Trace(word)),
         Verb::Dump => match side_of(word) {
             Some(side) => Some(Command::Dump(side)),
             None => None,

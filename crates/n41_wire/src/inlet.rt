@@ -1,9 +1,10 @@
 // The end of a connection that hears messages.
-ghost use Rattle.std.specs.Prelude.{◌≡◌, ◌≤◌, ◌<◌, ◌++◌, ◌∷◌, [], ℕ, List, length, Some, None, Ok, Err, OnOk, IfErr, IfSome, IsErrOf};
+ghost use Rattle.std.specs.Prelude.{◌≡◌, ◌≤◌, ◌<◌, ◌++◌, ◌∷◌, [], ℕ, All, List, length, Some, None, Ok, Err, OnOk, IfErr, IfSome, IsErrOf};
 ghost use Rattle.n41_link.specs.Counts.{Counts};
 ghost use Rattle.n41_link.specs.Ends.{ear_given, ear_fault};
 ghost use Rattle.n41_link.specs.Flow.{KnownAs};
 ghost use Rattle.n41_link.specs.Heard.{Stills, capped};
+ghost use Rattle.n41_replies.specs.Replies.{IsSpellable};
 ghost use Rattle.n41_wire.specs.Faults.{of_msg, fault_of};
 ghost use Rattle.n41_wire.specs.Got.{Gets, TakesRecord, in_quiet, in_end, failed_to_get};
 ghost use Rattle.n41_wire.specs.Logs.{IsRead, IsStanding};
@@ -13,6 +14,7 @@ use crate::fault::InFault;
 use crate::log::Log;
 use n41_link::{Ear, EarGot, Inflow};
 use n41_replies::{MsgFault, read_reply};
+use n41_tellable::replies_that_are_read_are_tellable;
 use std::alloc::Global;
 
 /// Hears the messages that come from an inflow, with their places on its connection. So far these are replies: a call from the other side is garbled, until callbacks are taken.
@@ -37,6 +39,7 @@ fn take_record(alloc: Global, conn: u64, log: &mut Log, bytes: &[u8]) -> Result<
 {
     match read_reply(alloc, bytes) {
         Ok(reply) => {
+            replies_that_are_read_are_tellable();
             let place = log.take(bytes, &reply);
             Ok(Arrival { conn, place, reply })
         }
@@ -78,6 +81,7 @@ impl<I: Inflow> Inlet<I> {
         ensures value { result.now ≡ inlet_inflow self.now }
         ensures told { KnownAs (I.got (inlet_inflow self.now)) (inlet_log self.now) }
         ensures stands { IsRead (inlet_refused self.now) (inlet_given self.now) (inlet_replies self.now) }
+        ensures spelled { All IsSpellable (inlet_replies self.now) }
     {
         let _ = self.log.fault();
         self.ear.inflow()

@@ -1,8 +1,8 @@
 // The log of an inlet.
-ghost use Rattle.std.specs.Prelude.{◌≡◌, ◌++◌, ◌∷◌, [], length, Ok, Some, None};
+ghost use Rattle.std.specs.Prelude.{◌≡◌, ◌++◌, ◌∷◌, [], All, length, Ok, Some, None};
 ghost use Rattle.n41_link.specs.Heard.{capped};
 ghost use Rattle.n41_replies.specs.Faults.{Fails};
-ghost use Rattle.n41_replies.specs.Replies.{reply_at};
+ghost use Rattle.n41_replies.specs.Replies.{reply_at, IsSpellable};
 ghost use Rattle.n41_wire.specs.Logs.{IsStanding};
 
 use crate::taken::Taken;
@@ -12,7 +12,7 @@ use std::marker::Model;
 
 /// How many replies were read, and the fault of the record that was read last, if any.
 ///
-/// A contract sees all records, the replies that they were read as, and that fault.
+/// A contract sees all records, the replies that they were read as, and that fault. Each of the replies can be written again.
 #[derive(Drop)]
 pub(crate) struct Log {
     count: u64,
@@ -21,15 +21,16 @@ pub(crate) struct Log {
 }
 
 impl Model for Log {
-    ghost use Rattle.std.specs.Prelude.{◌≡◌, length};
+    ghost use Rattle.std.specs.Prelude.{◌≡◌, All, length};
     ghost use Rattle.n41_link.specs.Heard.{capped};
+    ghost use Rattle.n41_replies.specs.Replies.{IsSpellable};
     ghost use Rattle.n41_wire.specs.Logs.{Logged, IsRead};
 
     ghost Value = { Logged };
 
     ghost view = { λ l. record { given = l.taken.given; replies = l.taken.replies; fault = l.fault } };
 
-    ghost invariant = { λ l. (l.count ≡ capped (length l.taken.replies)) × IsRead l.fault l.taken.given l.taken.replies };
+    ghost invariant = { λ l. (l.count ≡ capped (length l.taken.replies)) × IsRead l.fault l.taken.given l.taken.replies × All IsSpellable l.taken.replies };
 }
 
 impl Log {
@@ -48,6 +49,7 @@ impl Log {
     pub(crate) fn fault(&self) -> Option<MsgFault>
         ensures value { result ≡ self.now.fault }
         ensures stands { IsStanding self.now }
+        ensures spelled { All IsSpellable self.now.replies }
     {
         self.fault
     }
@@ -56,6 +58,7 @@ impl Log {
     pub(crate) fn take(&mut self, bytes: &[u8], reply: &Reply) -> u64
         requires none { self.old.fault ≡ None }
         requires read { reply_at bytes.now ≡ Ok reply.now }
+        requires spelled { IsSpellable reply.now }
         ensures place { result ≡ capped (length self.old.replies) }
         ensures given { self.new.given ≡ self.old.given ++ bytes.now ∷ [] }
         ensures replies { self.new.replies ≡ self.old.replies ++ reply.now ∷ [] }

@@ -14,7 +14,7 @@ follow-requires-clause-next g c =
 pub returns-clause-fares : goal.returns-clause-fares
 returns-clause-fares g c =
     let l = c.listen-got.ensures in
-    hears c.listen-got.result c.follow.result c.args.core.now c.follow.new.core c.args.conn c.args.wire.now c.listen-got.new.inlet c.requires l.conn l.told l.first l.shows c.follow.ensures
+    hears c.listen-got.result c.follow.result c.args.core.now c.follow.new.core c.args.conn c.args.wire.now c.listen-got.new.inlet c.requires l.conn l.told l.first l.spelled l.shows c.follow.ensures
 
 pub returns-clause-reads : goal.returns-clause-reads
 returns-clause-reads g c =

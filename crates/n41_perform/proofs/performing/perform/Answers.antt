@@ -15,7 +15,7 @@ perform_script-requires-clause-built g c κs within = are_built c.in-Ok.ensures.
 pub returns-in-Ok-clause-outcome : goal.returns-in-Ok-clause-outcome
 returns-in-Ok-clause-outcome g c =
     let r = c.perform_script.result in
-    outcome r.fault (g.C.Clock.given r.clock) c.in-Ok.script (g.S.Source.left c.args.source.now) (g.S.Source.left c.read.new.source) (g.K.Sink.taken c.args.sink.now) (g.K.Sink.taken c.perform_script.new.sink) r.journal.events
+    outcome c.args.shows r.fault (g.C.Clock.given r.clock) c.in-Ok.script (g.S.Source.left c.args.source.now) (g.S.Source.left c.read.new.source) (g.K.Sink.taken c.args.sink.now) (g.K.Sink.taken c.perform_script.new.sink) r.journal.events
     c.in-Ok.ensures.ok c.perform_script.ensures.prints
 
 pub returns-in-Ok-clause-one_out : goal.returns-in-Ok-clause-one_out
@@ -27,13 +27,13 @@ returns-in-Ok-clause-good g c = always_good _ c.a_change_takes_effect_once.ensur
 pub returns-in-Ok-clause-reads : goal.returns-in-Ok-clause-reads
 returns-in-Ok-clause-reads g c =
     let r = c.perform_script.result in
-    reads_of r.fault (g.C.Clock.given r.clock) c.in-Ok.script (g.K.Sink.taken c.args.sink.now) (g.K.Sink.taken c.perform_script.new.sink) r.journal.events (g.S.Source.faults c.args.source.now) (g.S.Source.faults c.read.new.source)
+    reads_of c.args.shows r.fault (g.C.Clock.given r.clock) c.in-Ok.script (g.K.Sink.taken c.args.sink.now) (g.K.Sink.taken c.perform_script.new.sink) r.journal.events (g.S.Source.faults c.args.source.now) (g.S.Source.faults c.read.new.source)
     c.perform_script.ensures.prints c.in-Ok.ensures.cause
 
 pub returns-in-Err-clause-outcome : goal.returns-in-Err-clause-outcome
 returns-in-Err-clause-outcome g c =
     let r = c.untouched.result in
-    untouched c.in-Err.fault r.fault (g.C.Clock.given r.clock) (g.S.Source.left c.args.source.now) (g.S.Source.left c.read.new.source) (g.K.Sink.taken c.args.sink.now) r.journal.events
+    untouched c.args.shows c.in-Err.fault r.fault (g.C.Clock.given r.clock) (g.S.Source.left c.args.source.now) (g.S.Source.left c.read.new.source) (g.K.Sink.taken c.args.sink.now) r.journal.events
     c.untouched.ensures.fault c.untouched.ensures.journal c.in-Err.ensures.err
 
 pub returns-in-Err-clause-wires : goal.returns-in-Err-clause-wires

@@ -1,0 +1,2 @@
+mod Printings
+mod One
