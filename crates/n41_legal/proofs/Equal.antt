@@ -126,7 +126,7 @@ status_same p q e =
 session_id_parts : {a x : List ℕ} → a ≡ x → (let r : SessionId = record { 0 = a } in r) ≡ record { 0 = x }
 session_id_parts e0 = cc
 
-session_id_same : (p q : SessionId) → session_ids.ghosts.eq p q ≡ true → p ≡ q
+pub session_id_same : (p q : SessionId) → session_ids.ghosts.eq p q ≡ true → p ≡ q
 session_id_same p q e =
     let s0 = bytes_same p.0 q.0 e in
     session_id_parts s0

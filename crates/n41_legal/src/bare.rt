@@ -23,10 +23,9 @@ use std::alloc::Global;
 fn names_again(run: &[Step], identity: &Identity) -> bool
     ensures { Decides result (NamesAgain run.now identity.now) }
 {
-    match confirmed(run) {
-        Some(client) => client == identity.client,
-        None => !was_named(run, identity.client),
-    }
+    let client = confirmed(run);
+    let named = was_named(run, identity.client);
+    is_id(client, identity.client) || (client.is_none() && !named)
 }
 
 /// Whether a request with this plan may be answered with this identity.
@@ -60,10 +59,11 @@ fn is_wide_enough(made: SessionMade) -> bool
 fn makes_next(run: &[Step], client: u64, sequence: u32, made: SessionMade) -> bool
     ensures { Decides result (MakesNext run.now client sequence made) }
 {
-    is_there(run, client)
-        && sequence == next_sequence(run, client)
-        && !was_made(run, made.sid)
-        && is_wide_enough(made)
+    let there = is_there(run, client);
+    let next = next_sequence(run, client);
+    let old = was_made(run, made.sid);
+    let wide = is_wide_enough(made);
+    there && sequence == next && !old && wide
 }
 
 /// Whether a request with this plan may make this session.
@@ -104,7 +104,9 @@ fn makes_again(
         return Ok(false);
     };
     let same = is_made_reply(alloc, request, made, reply)?;
-    Ok(is_there(run, client) && is_last(sequence, next_sequence(run, client)) && same)
+    let there = is_there(run, client);
+    let last_one = is_last(sequence, next_sequence(run, client));
+    Ok(there && last_one && same)
 }
 
 /// Whether a request with this plan may get the reply that made a session again.
@@ -153,7 +155,9 @@ fn is_bare(steps: &[Step], run: &[Step], client: u64) -> bool
 fn ends_client(run: &[Step], client: u64) -> bool
     ensures { Decides result (EndsClient run.now client) }
 {
-    is_there(run, client) && is_bare(run, run, client)
+    let there = is_there(run, client);
+    let bare = is_bare(run, run, client);
+    there && bare
 }
 
 /// Whether a request with this plan may remove a session or a client id.

@@ -1,10 +1,10 @@
-ghost use Rattle.std.specs.Prelude.{◌≡◌, ◌≤◌, length, option_copied, IfOk, Some};
-ghost use Rattle.std.specs.Bool.{Decides};
+ghost use Rattle.std.specs.Prelude.{◌≡◌, ◌≤◌, length, option_copied, IfOk};
 ghost use Rattle.n41_model.specs.Requests.{standing};
 ghost use Rattle.n41_runs.specs.Steps.{client, messages, message, carrier, fate, taken};
 ghost use Rattle.n41_legal.specs.Answers.{answered_by, answer_of};
 
 use crate::replies::{bound_reply, ended_reply, made_reply, named_reply, ran_reply, refusal};
+use crate::server::is_id;
 use n41_journal::Event;
 use n41_results::Reply;
 use n41_runs::Step;
@@ -142,7 +142,7 @@ pub(crate) fn fate(alloc: Global, run: &[Step], number: u64) -> Result<Option<Re
     match run {
         [] => Ok(None),
         [step, before @ ..] => {
-            if answered_by(step) == Some(number) {
+            if is_id(answered_by(step), number) {
                 answer_of(alloc, step)
             } else {
                 fate(alloc, before, number)

@@ -1,14 +1,14 @@
-ghost use Rattle.std.specs.Prelude.{◌≡◌, ◌⊎◌, is_some, IfOk, Some, None};
+ghost use Rattle.std.specs.Prelude.{◌≡◌, is_some, IfOk, Some, None};
 ghost use Rattle.std.specs.Bool.{Decides};
 ghost use Rattle.n41_model.specs.Requests.{standing};
-ghost use Rattle.n41_results.specs.declared.sessions.Bound.{Bound};
 ghost use Rattle.n41_runs.specs.Steps.{client, fate, message};
-ghost use Rattle.n41_runs.specs.declared.steps.Step.TheVariants.{Runs, Repeats, Refuses, Names, Makes, Binds, Ends};
-ghost use Rattle.n41_runs.specs.Rules.{Allowed, IsNoReply, MayBeTaken, Pending, Sizes, refuses_by};
+ghost use Rattle.n41_runs.specs.declared.steps.Step.TheVariants.{Runs, Repeats, Refuses};
+ghost use Rattle.n41_runs.specs.Rules.{Allowed, IsNoReply, MayBeTaken, MayBind, MayEnd, MayMake, MayName, Pending, refuses_by};
 ghost use Rattle.n41_legal.specs.Legality.{sizes_of, IsLegality};
 
 use crate::bare::{may_bind, may_end, may_make, may_make_again, may_name, plan_refuses};
 use crate::messages::{carrier, fate, message_at, standing, taken};
+use crate::server::is_id;
 use crate::slots::{may_repeat, may_run, slot_refuses};
 use n41_journal::Event;
 use n41_results::{Identity, Reply, Res, Sequenced, SessionMade};
@@ -39,17 +39,27 @@ fn is_pending(alloc: Global, run: &[Step], number: u64, request: &Request) -> Re
     ensures { IfOk result (λ b. Decides b (Pending run.now number request.now)) }
 {
     let answered = is_answered(alloc, run, number)?;
-    Ok(is_put(run, number, request) && !answered)
+    let put = is_put(run, number, request);
+    Ok(put && !answered)
+}
+
+/// Whether an answer is there and is this reply.
+fn is_answer(answer: &Option<Reply>, reply: &Reply) -> bool
+    ensures { Decides result (answer.now ≡ Some reply.now) }
+{
+    match answer {
+        None => false,
+        Some(made) => *made == *reply,
+    }
 }
 
 /// Whether a message was answered with this reply.
 fn is_fate(alloc: Global, run: &[Step], number: u64, reply: &Reply) -> Result<bool, NoMemory>
     ensures { IfOk result (λ b. Decides b (fate run.now number ≡ Some reply.now)) }
 {
-    match fate(alloc, run, number)? {
-        None => Ok(false),
-        Some(made) => Ok(made == *reply),
-    }
+    let answer = fate(alloc, run, number)?;
+    let same = is_answer(&answer, reply);
+    Ok(same)
 }
 
 /// Whether the client may take this reply to a message from this connection.
@@ -63,10 +73,10 @@ fn may_be_taken(
     ensures { IfOk result (λ b. Decides b (MayBeTaken run.now number conn reply.now)) }
 {
     let made = is_fate(alloc, run, number, reply)?;
-    Ok(standing(run) == Some(conn)
-        && made
-        && !taken(run, number)
-        && carrier(run, number) == conn)
+    let stands = is_id(standing(run), conn);
+    let old = taken(run, number);
+    let on = carrier(run, number);
+    Ok(stands && made && !old && on == conn)
 }
 
 /// Whether an event is no reply and no callback, which come from the server.
@@ -153,7 +163,8 @@ fn refuses(
     ensures { IfOk result (λ b. Decides b (Allowed (sizes_of sizes.now) run.now (Refuses number request.now status))) }
 {
     let pending = is_pending(alloc, run, number, request)?;
-    Ok(pending && refuses_by(sizes, run, number, request, status))
+    let refused = refuses_by(sizes, run, number, request, status);
+    Ok(pending && refused)
 }
 
 /// Whether EXCHANGE_ID may name this client.
@@ -164,10 +175,11 @@ fn names(
     request: &Request,
     identity: &Identity,
 ) -> Result<bool, NoMemory>
-    ensures { IfOk result (λ b. (s : Sizes) → Decides b (Allowed s run.now (Names number request.now identity.now))) }
+    ensures { IfOk result (λ b. Decides b (Pending run.now number request.now × ((request.now.slot ≡ None) × MayName run.now request.now.plan identity.now))) }
 {
     let pending = is_pending(alloc, run, number, request)?;
-    Ok(pending && request.slot.is_none() && may_name(run, &request.plan, identity))
+    let named = may_name(run, &request.plan, identity);
+    Ok(pending && request.slot.is_none() && named)
 }
 
 /// Whether CREATE_SESSION may make this session.
@@ -178,10 +190,11 @@ fn makes(
     request: &Request,
     made: SessionMade,
 ) -> Result<bool, NoMemory>
-    ensures { IfOk result (λ b. (s : Sizes) → Decides b (Allowed s run.now (Makes number request.now made))) }
+    ensures { IfOk result (λ b. Decides b (Pending run.now number request.now × ((request.now.slot ≡ None) × MayMake run.now request.now.plan made))) }
 {
     let pending = is_pending(alloc, run, number, request)?;
-    Ok(pending && request.slot.is_none() && may_make(run, &request.plan, made))
+    let makes = may_make(run, &request.plan, made);
+    Ok(pending && request.slot.is_none() && makes)
 }
 
 /// Whether BIND_CONN_TO_SESSION may bind its connection.
@@ -191,18 +204,20 @@ fn binds(
     number: u64,
     request: &Request,
 ) -> Result<bool, NoMemory>
-    ensures { IfOk result (λ x. (s : Sizes) (b : Bound) → Decides x (Allowed s run.now (Binds number request.now b))) }
+    ensures { IfOk result (λ b. Decides b (Pending run.now number request.now × ((request.now.slot ≡ None) × MayBind run.now request.now.plan))) }
 {
     let pending = is_pending(alloc, run, number, request)?;
-    Ok(pending && request.slot.is_none() && may_bind(run, &request.plan))
+    let binds = may_bind(run, &request.plan);
+    Ok(pending && request.slot.is_none() && binds)
 }
 
 /// Whether a request may remove a session or a client id.
 fn ends(alloc: Global, run: &[Step], number: u64, request: &Request) -> Result<bool, NoMemory>
-    ensures { IfOk result (λ b. (s : Sizes) → Decides b (Allowed s run.now (Ends number request.now))) }
+    ensures { IfOk result (λ b. Decides b (Pending run.now number request.now × ((request.now.slot ≡ None) × MayEnd run.now request.now.plan))) }
 {
     let pending = is_pending(alloc, run, number, request)?;
-    Ok(pending && request.slot.is_none() && may_end(run, &request.plan))
+    let ends = may_end(run, &request.plan);
+    Ok(pending && request.slot.is_none() && ends)
 }
 
 /// Whether a step may follow these, where the sizes are the first that are told of a request.
@@ -269,10 +284,12 @@ pub fn first_illegal(
     let [step, before @ ..] = run else {
         return Ok(None);
     };
-    if let Some(place) = first_illegal(alloc, sizes, before)? {
+    let earlier = first_illegal(alloc, sizes, before)?;
+    if let Some(place) = earlier {
         return Ok(Some(place));
     }
-    if may_follow(alloc, sizes, before, step)? {
+    let follows = may_follow(alloc, sizes, before, step)?;
+    if follows {
         Ok(None)
     } else {
         Ok(Some(before.len() as u64 + 1))

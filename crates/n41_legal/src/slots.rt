@@ -1,6 +1,6 @@
 ghost use Rattle.std.specs.Prelude.{◌≡◌, ◌&&◌, ◌||◌, not, nat_le, is_none, IfOk, Some};
 ghost use Rattle.std.specs.Bool.{Decides};
-ghost use Rattle.n41_results.specs.declared.replies.ReplyBody.TheVariants.{Results};
+ghost use Rattle.n41_results.specs.declared.replies.ReplyBody.TheVariants as body;
 ghost use Rattle.n41_results.specs.Results.{ok};
 ghost use Rattle.n41_results.specs.Shapes.{shape_of};
 ghost use Rattle.n41_model.specs.Replies.{has_its_answer, is_not_bound, is_ok, is_uncached, repeats, tells_type_and_size};
@@ -120,6 +120,20 @@ pub(crate) fn is_fit(request: &Request, reply: &Reply) -> bool
     fits(request, reply).is_ok()
 }
 
+/// Whether the status is RETRY_UNCACHED_REP.
+fn is_uncached(status: Status) -> bool
+    ensures { result ≡ is_uncached status }
+{
+    status == Status::RETRY_UNCACHED_REP
+}
+
+/// Whether results that end with this status answer the plan, where all were OK.
+fn is_told(plan: &Plan, end: Status, results: &[Res]) -> bool
+    ensures { result ≡ (not (is_ok end) || has_its_answer plan.now results.now) }
+{
+    end != Status::OK || has_its_answer(plan, results)
+}
+
 /// Whether the results are ones of a new turn.
 fn is_run(
     alloc: Global,
@@ -131,10 +145,11 @@ fn is_run(
 {
     let reply = ran_reply(alloc, request, sequenced, results)?;
     let end = end_status(Status::OK, results);
-    Ok(repeats(request.slot, sequenced)
-        && is_fit(request, &reply)
-        && end != Status::RETRY_UNCACHED_REP
-        && (end != Status::OK || has_its_answer(&request.plan, results)))
+    let echoes = repeats(request.slot, sequenced);
+    let fits = is_fit(request, &reply);
+    let uncached = is_uncached(end);
+    let told = is_told(&request.plan, end, results);
+    Ok(echoes && fits && !uncached && told)
 }
 
 /// Whether a turn is new: one above the last.
@@ -165,23 +180,21 @@ pub(crate) fn may_run(
     ensures { IfOk result (λ b. Decides b (MayRun (sizes_of sizes.now) run.now request.now place sequenced results.now)) }
 {
     let answer = is_run(alloc, request, sequenced, results)?;
-    Ok(is_taken_in(sizes, run, request, place)
-        && is_next(place.turn, last(run, place.sid, place.slot))
-        && answer)
+    let taken_in = is_taken_in(sizes, run, request, place);
+    let next = is_next(place.turn, last(run, place.sid, place.slot));
+    Ok(taken_in && next && answer)
 }
 
 /// Whether these are the results of RETRY_UNCACHED_REP, at SEQUENCE itself or at the next operation.
 fn is_uncached_list(slot: Option<SlotUse>, status: Status, results: &[Res]) -> bool
-    ensures { result ≡ is_uncached_body slot (Results status results.now) }
+    ensures { result ≡ is_uncached_body slot (body.Results status results.now) }
 {
     match results {
         [Res::Sequence(Err(refusal))] => {
-            *refusal == Status::RETRY_UNCACHED_REP && status == Status::RETRY_UNCACHED_REP
+            is_uncached(*refusal) && is_uncached(status)
         }
         [Res::Sequence(Ok(sequenced)), next] => {
-            repeats(slot, *sequenced)
-                && next.status() == Status::RETRY_UNCACHED_REP
-                && status == Status::RETRY_UNCACHED_REP
+            repeats(slot, *sequenced) && is_uncached(next.status()) && is_uncached(status)
         }
         _ => false,
     }
@@ -197,6 +210,16 @@ fn is_uncached_body(slot: Option<SlotUse>, body: &ReplyBody) -> bool
     }
 }
 
+/// Whether a reply is kept and is this one.
+fn is_body(kept: &Option<ReplyBody>, body: &ReplyBody) -> bool
+    ensures { Decides result (kept.now ≡ Some body.now) }
+{
+    match kept {
+        None => false,
+        Some(kept) => *kept == *body,
+    }
+}
+
 /// Whether this is the reply that is kept for the last turn.
 fn is_kept(
     alloc: Global,
@@ -206,10 +229,9 @@ fn is_kept(
 ) -> Result<bool, NoMemory>
     ensures { IfOk result (λ b. Decides b (kept run.now place.sid place.slot ≡ Some body.now)) }
 {
-    match kept(alloc, run, place.sid, place.slot)? {
-        None => Ok(false),
-        Some(kept) => Ok(kept == *body),
-    }
+    let kept = kept(alloc, run, place.sid, place.slot)?;
+    let same = is_body(&kept, body);
+    Ok(same)
 }
 
 /// Whether the reply tells that it was not kept, of a request that did not ask to keep it.
@@ -232,8 +254,11 @@ pub(crate) fn may_repeat(
     ensures { IfOk result (λ b. Decides b (MayRepeat (sizes_of sizes.now) run.now request.now place reply.now)) }
 {
     let same = is_kept(alloc, run, place, &reply.body)?;
-    Ok(is_taken_in(sizes, run, request, place)
-        && place.turn == last(run, place.sid, place.slot)
+    let taken_in = is_taken_in(sizes, run, request, place);
+    let last_turn = last(run, place.sid, place.slot);
+    let uncached = is_uncached_reply(request, place, reply);
+    Ok(taken_in
+        && place.turn == last_turn
         && reply.xid == request.xid
-        && (same || is_uncached_reply(request, place, reply)))
+        && (same || uncached))
 }

@@ -1,4 +1,5 @@
-ghost use Rattle.std.specs.Prelude.{◌≡◌};
+ghost use Rattle.std.specs.Prelude.{◌≡◌, IfOk};
+ghost use Rattle.n41_runs.specs.declared.steps.Step.TheVariants.{Names, Repeats, Runs};
 
 use n41_journal::Event;
 use n41_results::{Bound, Identity, Reply, Results, Sequenced, SessionMade};
@@ -7,7 +8,7 @@ use std::alloc::AllocError;
 
 /// A step of the client, the net or the server. Messages are the requests that the client put, numbered from 0 over all its connections.
 /// A step of the server names the message that it answers, the request in it, and what the server chose.
-#[derive(Drop, PartialEq, Eq)]
+#[derive(Drop)]
 pub enum Step {
     /// The client did something, or met something that is no reply.
     Does { event: Event },
@@ -59,6 +60,51 @@ pub enum Step {
     Ends { message: u64, request: Request },
 }
 
+/// A step that runs a request.
+fn runs(
+    message: u64,
+    request: &Request,
+    sequenced: Sequenced,
+    results: &Results,
+) -> Result<Step, AllocError>
+    ensures { IfOk result (λ s. s ≡ Runs message request.now sequenced results.now) }
+{
+    let results = results.clone()?;
+    let request = request.clone()?;
+    Ok(Step::Runs {
+        message,
+        request,
+        sequenced,
+        results,
+    })
+}
+
+/// A step that repeats a reply.
+fn repeats(message: u64, request: &Request, reply: &Reply) -> Result<Step, AllocError>
+    ensures { IfOk result (λ s. s ≡ Repeats message request.now reply.now) }
+{
+    let request = request.clone()?;
+    let reply = reply.clone()?;
+    Ok(Step::Repeats {
+        message,
+        request,
+        reply,
+    })
+}
+
+/// A step that names a client.
+fn names(message: u64, request: &Request, identity: &Identity) -> Result<Step, AllocError>
+    ensures { IfOk result (λ s. s ≡ Names message request.now identity.now) }
+{
+    let request = request.clone()?;
+    let identity = identity.clone()?;
+    Ok(Step::Names {
+        message,
+        request,
+        identity,
+    })
+}
+
 impl Clone for Step {
     ghost is_clone = { λ x y. y ≡ x };
 
@@ -83,21 +129,12 @@ impl Clone for Step {
                 request,
                 sequenced,
                 results,
-            } => Step::Runs {
-                message: *message,
-                request: request.clone()?,
-                sequenced: *sequenced,
-                results: results.clone()?,
-            },
+            } => runs(*message, request, *sequenced, results)?,
             Step::Repeats {
                 message,
                 request,
                 reply,
-            } => Step::Repeats {
-                message: *message,
-                request: request.clone()?,
-                reply: reply.clone()?,
-            },
+            } => repeats(*message, request, reply)?,
             Step::Refuses {
                 message,
                 request,
@@ -111,11 +148,7 @@ impl Clone for Step {
                 message,
                 request,
                 identity,
-            } => Step::Names {
-                message: *message,
-                request: request.clone()?,
-                identity: identity.clone()?,
-            },
+            } => names(*message, request, identity)?,
             Step::Makes {
                 message,
                 request,

@@ -1,5 +1,5 @@
 -- What is found of commands and their effects in a run.
-use Rattle.std.specs.Prelude.{◌≡◌, ℕ, ◌<◌, ◌≤◌, Bool, true, false, not, List, ◌∷◌, Option, Some, None, IsSome}
+use Rattle.std.specs.Prelude.{◌≡◌, ℕ, ◌<◌, ◌≤◌, Bool, true, false, not, ◌||◌, List, [], ◌∷◌, Option, Some, None, IsSome}
 use Rattle.n41_types.specs.declared.commands.Answer.{Answer}
 use Rattle.n41_types.specs.declared.commands.Answer.TheVariants as says
 use Rattle.n41_types.specs.declared.commands.Command.{Command}
@@ -38,6 +38,11 @@ abbrev pub NewName : ℕ → List Event → Request → ℕ → Option (Option C
 NewName n js r s None = knows (outs js s) r.xid ≡ true
 NewName n js r s (Some o) = (knows (outs js s) r.xid ≡ false) × ((c p : ℕ) → o ≡ last_of js (owner n (Put c p r ∷ js) s))
 
+-- the command did not take effect twice, or this is the one and it did
+abbrev pub NameTwice : ℕ → List Step → Option CommandName → Option CommandName → Type 0
+NameTwice n w a None = (c m : ℕ) → is_named a c m ≡ true → effects_of n w c m ≤ 1
+NameTwice n w a (Some x) = 1 < effects_of n w x.caller x.number
+
 -- none of the commands that took effect in these steps took effect twice in the run, or this one did
 abbrev pub IsTwice : ℕ → List Step → List Step → Option CommandName → Type 0
 IsTwice n v w None = (c m : ℕ) → 0 < effects_of n v c m → effects_of n w c m ≤ 1
@@ -54,6 +59,12 @@ IsKept n v w f (Some x) = (a : CommandName) × (x ≡ f a) × (Holds n w x → �
 abbrev pub IsAnswered : ℕ → List Step → Option Promise → Type 0
 IsAnswered n w None = (a : CommandName) → Holds n w (promise.Done a) × (Holds n w (promise.Undone a) × Holds n w (promise.Unknown a))
 IsAnswered n w (Some x) = (2 < rank x) × (Holds n w x → ⊥) × ((a : CommandName) → (3 < rank x → Holds n w (promise.Done a)) × (4 < rank x → Holds n w (promise.Undone a)))
+
+-- a request was put on the slot
+abbrev pub was_put : List Event → ℕ → Bool
+was_put [] s = false
+was_put (Put c p r ∷ js) s = is_on r s || was_put js s
+was_put (e ∷ js) s = was_put js s
 
 -- a changing request of the command is out on the slot, and a connection broke while it was unanswered
 pub record IsInDoubt (n : ℕ) (js : List Event) (s c m : ℕ) : Type 0 where

@@ -6,7 +6,7 @@ ghost use Rattle.n41_check.specs.Shows.{Shows};
 ghost use Rattle.n41_runs.specs.Steps.{client};
 ghost use Rattle.n41_runs.specs.Effects.{Effect, acts, change_of, command_of, command_on, effects, effects_of, has_done, is_done, is_named};
 ghost use Rattle.n41_runs.specs.Effects.{command_at};
-ghost use Rattle.n41_small_world.specs.Promised.{IsTwice, NewName, OrderlyBy, OwnerName};
+ghost use Rattle.n41_small_world.specs.Promised.{IsTwice, NameTwice, NewName, OrderlyBy, OwnerName};
 
 use crate::orderly::lead;
 use n41_check::Machine;
@@ -41,7 +41,8 @@ fn is_on(request: &Request, slot: u32) -> bool
 fn is_new(machine: &Machine<'_>, request: &Request, slot: u32) -> bool
     ensures { (n : ℕ) (js : List Event) → Shows n js machine.now → result ≡ not (knows (outs js slot) request.now.xid) }
 {
-    match machine.slot(slot).out {
+    let known = machine.slot(slot);
+    match known.out {
         None => true,
         Some(out) => out.xid != request.xid,
     }
@@ -83,7 +84,8 @@ fn name_behind(
     requires { is_on request.now slot ≡ true }
     ensures { IfOk result (λ o. (n : ℕ) → OrderlyBy n run.now → NewName n (client run.now) request.now slot o) }
 {
-    match lead(alloc, run)? {
+    let led = lead(alloc, run)?;
+    match led {
         None => Ok(None),
         Some(machine) => Ok(new_name(&machine, request, slot)),
     }
@@ -104,10 +106,16 @@ pub(crate) fn command_on(
                 event: Event::Put { request, .. },
             },
             before @ ..,
-        ] if is_on(request, slot) => match name_behind(alloc, before, request, slot)? {
-            Some(name) => Ok(name),
-            None => command_on(alloc, before, slot),
-        },
+        ] => {
+            if !is_on(request, slot) {
+                return command_on(alloc, before, slot);
+            }
+            let behind = name_behind(alloc, before, request, slot)?;
+            match behind {
+                Some(name) => Ok(name),
+                None => command_on(alloc, before, slot),
+            }
+        }
         [_, before @ ..] => command_on(alloc, before, slot),
     }
 }
@@ -205,9 +213,12 @@ pub(crate) fn effects_of(alloc: Global, run: &[Step], name: CommandName) -> Resu
                 ..
             },
             before @ ..,
-        ] if acts(&request.plan, results.as_slice()) => {
-            let acted = command_of(alloc, before, *message)?;
+        ] => {
             let others = effects_of(alloc, before, name)?;
+            if !acts(&request.plan, results.as_slice()) {
+                return Ok(others);
+            }
+            let acted = command_of(alloc, before, *message)?;
             Ok(if is_named(acted, name) {
                 others + 1
             } else {
@@ -232,21 +243,35 @@ pub(crate) fn is_owned(alloc: Global, run: &[Step]) -> Result<bool, NoMemory>
                 ..
             },
             before @ ..,
-        ] if acts(&request.plan, results.as_slice()) => {
-            let acted = command_of(alloc, before, *message)?;
+        ] => {
             let others = is_owned(alloc, before)?;
+            if !acts(&request.plan, results.as_slice()) {
+                return Ok(others);
+            }
+            let acted = command_of(alloc, before, *message)?;
             Ok(acted.is_some() && others)
         }
         [_, before @ ..] => is_owned(alloc, before),
     }
 }
 
-/// Of a command, whether it took effect more than once.
-fn is_twice(alloc: Global, run: &[Step], name: CommandName) -> Result<bool, NoMemory>
-    ensures { IfOk result (λ b. (n : ℕ) → OrderlyBy n run.now → Decides b (1 < effects_of n run.now name.caller name.number)) }
+/// A command that took effect more than once, if it is one.
+fn name_twice(
+    alloc: Global,
+    run: &[Step],
+    acted: Option<CommandName>,
+) -> Result<Option<CommandName>, NoMemory>
+    ensures { IfOk result (λ o. (n : ℕ) → OrderlyBy n run.now → NameTwice n run.now acted o) }
 {
+    let Some(name) = acted else {
+        return Ok(None);
+    };
     let count = effects_of(alloc, run, name)?;
-    Ok(count > 1)
+    if count > 1 {
+        Ok(Some(name))
+    } else {
+        Ok(None)
+    }
 }
 
 /// A command that took effect in these steps, and more than once in the run.
@@ -267,14 +292,16 @@ pub(crate) fn first_twice(
                 ..
             },
             before @ ..,
-        ] if acts(&request.plan, results.as_slice()) => {
-            let Some(name) = command_of(alloc, before, *message)? else {
+        ] => {
+            if !acts(&request.plan, results.as_slice()) {
                 return first_twice(alloc, before, run);
-            };
-            if is_twice(alloc, run, name)? {
-                return Ok(Some(name));
             }
-            first_twice(alloc, before, run)
+            let acted = command_of(alloc, before, *message)?;
+            let twice = name_twice(alloc, run, acted)?;
+            match twice {
+                Some(name) => Ok(Some(name)),
+                None => first_twice(alloc, before, run),
+            }
         }
         [_, before @ ..] => first_twice(alloc, before, run),
     }

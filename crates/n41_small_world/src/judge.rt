@@ -28,10 +28,12 @@ fn is_orderly(alloc: Global, run: &[Step]) -> Result<bool, NoMemory>
 fn broken_answer(alloc: Global, run: &[Step]) -> Result<Option<Promise>, NoMemory>
     ensures { IfOk result (λ o. (n : ℕ) → OrderlyBy n run.now → IsAnswered n run.now o) }
 {
-    if let Some(promise) = first_broken(alloc, run, run, Kind::Done)? {
+    let done = first_broken(alloc, run, run, Kind::Done)?;
+    if let Some(promise) = done {
         return Ok(Some(promise));
     }
-    if let Some(promise) = first_broken(alloc, run, run, Kind::Undone)? {
+    let undone = first_broken(alloc, run, run, Kind::Undone)?;
+    if let Some(promise) = undone {
         return Ok(Some(promise));
     }
     first_broken(alloc, run, run, Kind::Unknown)
@@ -41,10 +43,12 @@ fn broken_answer(alloc: Global, run: &[Step]) -> Result<Option<Promise>, NoMemor
 fn broken_effect(alloc: Global, run: &[Step]) -> Result<Option<Promise>, NoMemory>
     ensures { IfOk result (λ o. (n : ℕ) → OrderlyBy n run.now → IsPromised n run.now o) }
 {
-    if !is_owned(alloc, run)? {
+    let owned = is_owned(alloc, run)?;
+    if !owned {
         return Ok(Some(Promise::Owned));
     }
-    if let Some(name) = first_twice(alloc, run, run)? {
+    let twice = first_twice(alloc, run, run)?;
+    if let Some(name) = twice {
         return Ok(Some(Promise::Single(name)));
     }
     broken_answer(alloc, run)
@@ -54,7 +58,8 @@ fn broken_effect(alloc: Global, run: &[Step]) -> Result<Option<Promise>, NoMemor
 fn broken(alloc: Global, run: &[Step]) -> Result<Option<Promise>, NoMemory>
     ensures { IfOk result (λ o. (n : ℕ) → callers (client run.now) ≤ n → IsPromised n run.now o) }
 {
-    if is_orderly(alloc, run)? {
+    let orderly = is_orderly(alloc, run)?;
+    if orderly {
         broken_effect(alloc, run)
     } else {
         Ok(Some(Promise::OneOut))
@@ -77,10 +82,12 @@ fn reversed(alloc: Global, run: &[Step]) -> Result<Vec<Step>, NoMemory>
 fn judged(alloc: Global, sizes: &[(Request, Status)], run: &[Step]) -> Result<Judgement, NoMemory>
     ensures { IfOk result (λ j. (n : ℕ) → callers (client run.now) ≤ n → IsJudged (sizes_of sizes.now) n run.now j) }
 {
-    if let Some(place) = first_illegal(alloc, sizes, run)? {
+    let illegal = first_illegal(alloc, sizes, run)?;
+    if let Some(place) = illegal {
         return Ok(Judgement::Illegal(place));
     }
-    match broken(alloc, run)? {
+    let promise = broken(alloc, run)?;
+    match promise {
         None => Ok(Judgement::Good),
         Some(promise) => Ok(Judgement::Broken(promise)),
     }

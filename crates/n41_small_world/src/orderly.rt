@@ -1,8 +1,8 @@
-ghost use Rattle.std.specs.Prelude.{◌≡◌, ◌+◌, ◌<◌, ◌≤◌, ◌^◌, ◌∷◌, not, ℕ, length, List, IfOk, option_copied, option_to_list};
+ghost use Rattle.std.specs.Prelude.{◌≡◌, ◌+◌, ◌<◌, ◌≤◌, ◌==◌, ◌^◌, ◌∷◌, ℕ, true, List, IfOk, option_copied, option_to_list};
 ghost use Rattle.std.specs.Bool.{Decides};
 ghost use Rattle.n41_journal.specs.declared.events.Event.{Event};
 ghost use Rattle.n41_model.specs.OneOut.{IsOrderly, IsOrderlyBare, IsOrderlyOn, Orderly};
-ghost use Rattle.n41_model.specs.Requests.{bare_waits, bares, out, outs};
+ghost use Rattle.n41_model.specs.Requests.{bare_waits, bares, out, outs, without};
 ghost use Rattle.n41_check.specs.Rows.{row_in, row_of};
 ghost use Rattle.n41_check.specs.Rules.{callers};
 ghost use Rattle.n41_check.specs.Shows.{IsTried, Shows};
@@ -16,13 +16,20 @@ use n41_runs::Step;
 use n41_types::{NoMemory, Request, SlotUse};
 use std::alloc::Global;
 
+/// Whether a turn is one above the last that was used.
+fn is_next(turn: u32, used: u32) -> bool
+    ensures { result ≡ (turn == used + 1) }
+{
+    u64::from(turn) == u64::from(used) + 1
+}
+
 /// Whether a request goes on its slot as it should: again the same, which is not awaited, or anew at the next turn.
 fn is_orderly_on(slot: &Slot<'_>, request: &Request, place: SlotUse) -> bool
     ensures { (n : ℕ) (js : List Event) → row_in slot.now ≡ row_of n js place.slot → outs js place.slot ≡ option_to_list (out js place.slot) → Decides result (IsOrderlyOn js place request.now) }
 {
     match slot.out {
         Some(out) => *request == *out && !slot.waits,
-        None => u64::from(place.turn) == u64::from(slot.used) + 1,
+        None => is_next(place.turn, slot.used),
     }
 }
 
@@ -31,8 +38,14 @@ fn unless_answered<'a>(out: Option<&'a Request>, reply: &Reply) -> Option<&'a Re
     ensures { option_to_list (option_copied result) ≡ without (option_to_list (option_copied out.entry)) reply.now.xid }
 {
     match out {
-        Some(request) if request.xid != reply.xid => Some(request),
-        _ => None,
+        None => None,
+        Some(request) => {
+            if request.xid == reply.xid {
+                None
+            } else {
+                Some(request)
+            }
+        }
     }
 }
 
@@ -105,7 +118,20 @@ fn is_orderly(machine: &Machine<'_>, run: &[Step], request: &Request) -> bool
 {
     match request.slot {
         None => is_orderly_bare(run, request),
-        Some(place) => is_orderly_on(&machine.slot(place.slot), request, place),
+        Some(place) => {
+            let slot = machine.slot(place.slot);
+            is_orderly_on(&slot, request, place)
+        }
+    }
+}
+
+/// Whether an event leaves a journal orderly.
+fn goes(machine: &Machine<'_>, run: &[Step], event: &Event) -> bool
+    ensures { (n : ℕ) → IsLedBy n run.now true machine.now → Decides result (Orderly (event.now ∷ client run.now)) }
+{
+    match event {
+        Event::Put { request, .. } => is_orderly(machine, run, request),
+        _ => true,
     }
 }
 
@@ -122,17 +148,18 @@ fn advance<'a>(
 {
     match step {
         Step::Does { event } => {
-            if let Event::Put { request, .. } = event {
-                if !is_orderly(machine, run, request) {
-                    return Ok(false);
-                }
+            if !goes(machine, run, event) {
+                return Ok(false);
             }
             machine.step(alloc, event)?;
+            Ok(true)
         }
-        Step::Takes { reply, .. } => machine.took(alloc, reply)?,
-        _ => {}
+        Step::Takes { reply, .. } => {
+            machine.took(alloc, reply)?;
+            Ok(true)
+        }
+        _ => Ok(true),
     }
-    Ok(true)
 }
 
 /// What is known of the journal of the client in a run; None where a request does not go as it should.
@@ -145,10 +172,12 @@ pub(crate) fn lead<'a>(
     let [step, before @ ..] = run else {
         return Ok(Some(Machine::new(alloc)));
     };
-    let Some(mut machine) = lead(alloc, before)? else {
+    let led = lead(alloc, before)?;
+    let Some(mut machine) = led else {
         return Ok(None);
     };
-    if advance(alloc, before, step, &mut machine)? {
+    let goes = advance(alloc, before, step, &mut machine)?;
+    if goes {
         Ok(Some(machine))
     } else {
         Ok(None)

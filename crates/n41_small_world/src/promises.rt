@@ -1,7 +1,5 @@
-ghost use Rattle.std.specs.Prelude.{◌≡◌, ◌<◌, ◌&&◌, ◌≢◌, [], ℕ, List, IfOk, None, Some, option_copied, true};
+ghost use Rattle.std.specs.Prelude.{◌≡◌, ◌&&◌, ℕ, IfOk, option_copied, true};
 ghost use Rattle.std.specs.Bool.{Decides};
-ghost use Rattle.n41_journal.specs.declared.events.Event.{Event};
-ghost use Rattle.n41_model.specs.Requests.{outs};
 ghost use Rattle.n41_model.specs.Text.{answer_to};
 ghost use Rattle.n41_check.specs.Rows.{is_changing_out, row_in};
 ghost use Rattle.n41_check.specs.Shows.{Shows};
@@ -9,7 +7,7 @@ ghost use Rattle.n41_runs.specs.Steps.{client};
 ghost use Rattle.n41_runs.specs.Effects.{asked, is_changing};
 ghost use Rattle.n41_runs.specs.Good.{IsUnknown, is_undone};
 ghost use Rattle.n41_small_world.specs.Judged.{Holds};
-ghost use Rattle.n41_small_world.specs.Promised.{AnyInDoubt, IsInDoubt, IsKept, OrderlyBy, promise_of, is_done_change, is_undone_answer, is_unknown_answer};
+ghost use Rattle.n41_small_world.specs.Promised.{AnyInDoubt, IsInDoubt, IsKept, OrderlyBy, was_put, promise_of, is_done_change, is_undone_answer, is_unknown_answer};
 ghost use Rattle.n41_small_world.specs.declared.judgements.Promise.TheVariants as promise;
 
 use crate::effects::{command_on, effects_of, is_named};
@@ -149,7 +147,10 @@ fn is_in_doubt(
     ensures { IfOk result (λ b. (n : ℕ) → OrderlyBy n run.now → Shows n (client run.now) machine.now → Decides b (IsInDoubt n (client run.now) slot name.caller name.number)) }
 {
     let own = command_on(alloc, run, slot)?;
-    Ok(is_doubted(&machine.slot(slot)) && is_named(own, name))
+    let known = machine.slot(slot);
+    let doubted = is_doubted(&known);
+    let named = is_named(own, name);
+    Ok(doubted && named)
 }
 
 /// Whether one is on any of the slots on which these steps put a request.
@@ -161,7 +162,7 @@ fn any_in_doubt(
     name: CommandName,
 ) -> Result<bool, NoMemory>
     ensures some { IfOk result (λ b. (n : ℕ) → OrderlyBy n run.now → Shows n (client run.now) machine.now → b ≡ true → AnyInDoubt n (client run.now) name.caller name.number) }
-    ensures all { IfOk result (λ b. (n : ℕ) → OrderlyBy n run.now → Shows n (client run.now) machine.now → (s : ℕ) → outs (client steps.now) s ≢ [] → IsInDoubt n (client run.now) s name.caller name.number → b ≡ true) }
+    ensures all { IfOk result (λ b. (n : ℕ) → OrderlyBy n run.now → Shows n (client run.now) machine.now → (s : ℕ) → was_put (client steps.now) s ≡ true → IsInDoubt n (client run.now) s name.caller name.number → b ≡ true) }
 {
     match steps {
         [] => Ok(false),
@@ -188,11 +189,13 @@ fn any_in_doubt(
 fn is_unknown(alloc: Global, run: &[Step], name: CommandName) -> Result<bool, NoMemory>
     ensures { IfOk result (λ b. (n : ℕ) → OrderlyBy n run.now → Decides b (IsUnknown n (client run.now) name.caller name.number)) }
 {
-    match lead(alloc, run)? {
+    let led = lead(alloc, run)?;
+    match led {
         None => Ok(false),
         Some(machine) => {
+            let over = machine.is_over();
             let doubted = any_in_doubt(alloc, &machine, run, run, name)?;
-            Ok(doubted && machine.is_over())
+            Ok(doubted && over)
         }
     }
 }
@@ -223,7 +226,8 @@ fn keeps_done(alloc: Global, run: &[Step], name: CommandName) -> Result<bool, No
     ensures { IfOk result (λ b. (n : ℕ) → OrderlyBy n run.now → Decides b (Holds n run.now (promise.Done name))) }
 {
     let count = effects_of(alloc, run, name)?;
-    Ok(!is_done_change(run, name) || count == 1)
+    let asks = is_done_change(run, name);
+    Ok(!asks || count == 1)
 }
 
 /// Whether a command that is answered as not done took no effect.
@@ -231,7 +235,8 @@ fn keeps_undone(alloc: Global, run: &[Step], name: CommandName) -> Result<bool, 
     ensures { IfOk result (λ b. (n : ℕ) → OrderlyBy n run.now → Decides b (Holds n run.now (promise.Undone name))) }
 {
     let count = effects_of(alloc, run, name)?;
-    Ok(!is_undone_answer(run, name) || count == 0)
+    let asks = is_undone_answer(run, name);
+    Ok(!asks || count == 0)
 }
 
 /// Whether a command that is answered Unknown has its cause for that.
@@ -239,7 +244,8 @@ fn keeps_unknown(alloc: Global, run: &[Step], name: CommandName) -> Result<bool,
     ensures { IfOk result (λ b. (n : ℕ) → OrderlyBy n run.now → Decides b (Holds n run.now (promise.Unknown name))) }
 {
     let caused = is_unknown(alloc, run, name)?;
-    Ok(!is_unknown_answer(run, name) || caused)
+    let asks = is_unknown_answer(run, name);
+    Ok(!asks || caused)
 }
 
 /// Whether a promise on an answer holds.
@@ -274,7 +280,8 @@ pub(crate) fn first_broken(
                 caller: *caller,
                 number: *number,
             };
-            if keeps(alloc, run, kind, name)? {
+            let kept = keeps(alloc, run, kind, name)?;
+            if kept {
                 first_broken(alloc, before, run, kind)
             } else {
                 Ok(Some(kind.of(name)))
