@@ -14,7 +14,8 @@ use Rattle.n41_model.specs.Kept.{Kept}
 use Rattle.n41_model.specs.OneOut.{OneOut}
 use Rattle.n41_model.specs.Requests.{out, doubt, rounds}
 use Rattle.n41_model.specs.Text.{answer_to}
-use Rattle.n41_runs.specs.Steps.{Step, client}
+use Rattle.n41_runs.specs.declared.steps.Step.{Step}
+use Rattle.n41_runs.specs.Steps.{client}
 use Rattle.n41_runs.specs.Rules.{Legal}
 use Rattle.n41_runs.specs.Effects.{asked, is_changing, command_on, effects, effects_of, is_named, Effect}
 
