@@ -31,7 +31,7 @@ use Rattle.n41_journal_text.proofs.Plain.{hex_plain}
 use Rattle.n41_journal_text.proofs.Filled.{request_some, reply_some, callback_some, callback_reply_some}
 use Rattle.n41_journal_words.specs.Reading.{last_at}
 use Rattle.n41_journal_words.specs.Answers.{number64}
-use Rattle.n41_journal_reader.specs.Messages.{message, reply_of, callback_of, callback_reply_of}
+use Rattle.n41_journal_reader.specs.Messages.{reply_of, callback_of, callback_reply_of}
 use Rattle.n41_journal_reader.specs.Events.{began_of, place_at, message_of, cause_of, broke_of, answered_of, bytes_at, SaysPut, Says}
 use Rattle.n41_journal_back.specs.Kept.{IsKept}
 use Rattle.n41_journal_back.proofs.Forms.{at_word, at_last, at32, at64, last32, last64}
