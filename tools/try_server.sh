@@ -284,6 +284,33 @@ try_list() {
     unmarred listed
 }
 
+# replayed NAME: the journal that a trace printed as NAME.out is read and checked by itself: each of its lines is an event, and none breaks a rule
+replayed() {
+    start "$1-replayed" "$state/$1.out" replay
+    [ "$(cat "$state/$1.status")" = 0 ] && [ "$(cat "$state/$1-replayed.status")" = 0 ] &&
+        [ "$(cat "$state/$1-replayed.out")" = "ok $(wc -l <"$state/$1.out")" ]
+    report "the journal of $1, of $(wc -l <"$state/$1.out") events, through $(cat "$state/$1.wire/cuts" 2>/dev/null) cuts" $? \
+        "status $(cat "$state/$1.status") and $(cat "$state/$1-replayed.status"), printed '$(cat "$state/$1-replayed.out")', fault '$(cat "$state/$1.err" "$state/$1-replayed.err")'"
+}
+
+# The journals of many callers and of changes, while records of the server are lost with their connections; and one in which a command is answered twice.
+try_trace() {
+    local caller
+    relay traced-many 40
+    for caller in $(seq 64); do
+        yes "c$caller stat /" | head -n 20
+    done >"$state/traced-many.script"
+    start traced-many "$state/traced-many.script" trace "127.0.0.1:$(cat "$state/traced-many.port")"
+    replayed traced-many
+    relay traced-changes 4
+    printf '%s\n' "a mkdir /t" "a mkdir /t/e" "a rename /t/e /u" "a stat /u" "b list /" "a remove /u" "a remove /t" "a stat /t" >"$state/traced-changes.script"
+    start traced-changes "$state/traced-changes.script" trace "127.0.0.1:$(cat "$state/traced-changes.port")"
+    replayed traced-changes
+    { cat "$state/traced-changes.out"; grep -m 1 "^answered 0 1 " "$state/traced-changes.out"; } >"$state/twice.journal"
+    start twice "$state/twice.journal" replay
+    expect twice 1 "event $(wc -l <"$state/twice.journal") breaks answers" ""
+}
+
 try_nobody() {
     local begin end
     begin=$(date +%s%N)
@@ -310,6 +337,7 @@ try_stat
 try_many
 try_changes
 try_list
+try_trace
 try_nobody
 start nowhere /dev/null run
 expect nowhere 2 "" "bad word at 2"

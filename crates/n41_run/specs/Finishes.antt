@@ -28,9 +28,13 @@ use Rattle.n41_probe.specs.declared.fault.ProbeFault.{ProbeFault}
 use Rattle.n41_probe.specs.declared.fault.ProbeFault.TheVariants as probe
 use Rattle.n41_probe.specs.declared.talk.Talk.{Talk}
 use Rattle.n41_words.specs.declared.fault.LineKind.TheVariants as kind
+use Rattle.n41_check.specs.declared.rules.Rule.{Rule}
+use Rattle.n41_replay.specs.Replays as replays
+use Rattle.n41_replay.specs.declared.fault.ReplayFault.{ReplayFault}
+use Rattle.n41_replay.specs.declared.fault.ReplayFault.TheVariants as replay
 use Rattle.n41_run.specs.declared.fault.RunFault.{RunFault}
 use Rattle.n41_run.specs.declared.fault.RunFault.TheVariants as run
-use Rattle.n41_run.specs.Causes.{status, IsOfProbe}
+use Rattle.n41_run.specs.Causes.{number, status, IsOfProbe}
 use Rattle.n41_run.specs.Words.{IsAddress, IsFirstBad, side_text}
 
 -- ---- what the words ask for
@@ -46,6 +50,9 @@ AsksTrace words address = IsAddress address × (words ≡ codes "trace" ∷ (add
 
 abbrev pub AsksDump : List (List ℕ) → Side → Type 0
 AsksDump words side = words ≡ codes "dump" ∷ (side_text side ∷ [])
+
+abbrev pub AsksReplay : List (List ℕ) → Type 0
+AsksReplay words = words ≡ codes "replay" ∷ []
 
 -- ---- the faults of the calls that a run stands on
 
@@ -67,6 +74,27 @@ of_dump dump.NoMemory = run.NoMemory
 abbrev pub dump_fault : {T : Type 0} → Result T DumpFault → Option RunFault
 dump_fault (Ok x) = None
 dump_fault (Err f) = Some (of_dump f)
+
+abbrev pub of_replay : ReplayFault → RunFault
+of_replay (replay.Script line k) = run.Script line k
+of_replay replay.ReadFault = run.ReadFault
+of_replay replay.WriteFault = run.WriteFault
+of_replay replay.NoMemory = run.NoMemory
+
+-- a broken rule is no fault
+abbrev pub replay_fault : {T : Type 0} → Result T ReplayFault → Option RunFault
+replay_fault (Ok x) = None
+replay_fault (Err f) = Some (of_replay f)
+
+-- it has a status of its own, which is 1
+abbrev pub replay_status : Result (Option (ℕ × Rule)) ReplayFault → ℕ
+replay_status (Ok None) = 0
+replay_status (Ok (Some found)) = 1
+replay_status (Err f) = number (of_replay f)
+
+-- the status is that of the fault; 1 alone has none, and stands for a rule that a replayed journal breaks
+abbrev pub HasStatus : List (List ℕ) → ℕ → Option RunFault → Type 0
+HasStatus words n fault = (n ≡ status fault) ⊎ (AsksReplay words × (n ≡ 1) × (fault ≡ None))
 
 -- one round is made, and a probe has event 0 alone
 abbrev pub of_probe : ProbeFault → RunFault
@@ -126,6 +154,15 @@ pub record DumpEnds (side : Side) (fault : Option RunFault) (left left_new : Opt
   pub answers : dumps.Answers answer side left left_new taken taken_new
   pub reads : Counts read read_new (dumps.is_read_fault answer)
   pub writes : Counts wrote wrote_new (dumps.is_write_fault answer)
+
+-- what a replay leaves
+pub record ReplayEnds (n : ℕ) (fault : Option RunFault) (left left_new : Option (List ℕ)) (read read_new : ℕ) (taken taken_new : Option (List ℕ)) (wrote wrote_new : ℕ) : Type 0 where
+  pub answer : Result (Option (ℕ × Rule)) ReplayFault
+  pub status_is : n ≡ replay_status answer
+  pub fault_is : fault ≡ replay_fault answer
+  pub outcome : replays.Outcome answer left left_new taken taken_new
+  pub reads : Counts read read_new (replays.is_read_fault answer)
+  pub writes : Counts wrote wrote_new (replays.is_write_fault answer)
 
 -- the words are no form, and this is the place of the first that fits none
 abbrev pub RefusesWords : List (List ℕ) → Option RunFault → Type 0

@@ -4,7 +4,7 @@ use Rattle.std.specs.Fmt.{decimal}
 use Rattle.n41_lines.specs.declared.side.Side.{Side}
 use Rattle.n41_lines.specs.declared.side.Side.TheVariants.{Client, Server}
 use Rattle.n41_run.specs.declared.words.Verb.{Verb}
-use Rattle.n41_run.specs.declared.words.Verb.TheVariants.{Probe, Run, Trace, Dump}
+use Rattle.n41_run.specs.declared.words.Verb.TheVariants.{Probe, Run, Trace, Dump, Replay}
 
 -- a port: the decimal numeral of a number from 1 to 65535
 pub record IsPort (bytes : List ℕ) : Type 0 where
@@ -26,6 +26,7 @@ verb_text Probe = codes "probe"
 verb_text Run = codes "run"
 verb_text Trace = codes "trace"
 verb_text Dump = codes "dump"
+verb_text Replay = codes "replay"
 
 abbrev pub side_text : Side → List ℕ
 side_text Client = codes "client"
@@ -35,19 +36,25 @@ side_text Server = codes "server"
 abbrev pub IsVerb : List ℕ → Type 0
 IsVerb word = (verb : Verb) × (word ≡ verb_text verb)
 
--- what may stand behind it: probe ADDR, run ADDR, trace ADDR, dump client, dump server
+-- the word that may stand behind it: probe ADDR, run ADDR, trace ADDR, dump client, dump server
 abbrev pub IsOperand : Verb → List ℕ → Type 0
 IsOperand Probe word = IsAddress word
 IsOperand Run word = IsAddress word
 IsOperand Trace word = IsAddress word
 IsOperand Dump word = (side : Side) × (word ≡ side_text side)
+IsOperand Replay word = ⊥
+
+-- the words behind it: one such word, or none behind replay
+abbrev pub AreOperands : Verb → List (List ℕ) → Type 0
+AreOperands verb [] = verb ≡ Replay
+AreOperands verb (word ∷ words) = IsOperand verb word × (words ≡ [])
 
 -- the words are one of the forms
 pub record IsForm (words : List (List ℕ)) : Type 0 where
   pub verb : Verb
-  pub operand : List ℕ
-  pub fits : IsOperand verb operand
-  pub words_are : words ≡ verb_text verb ∷ (operand ∷ [])
+  pub operands : List (List ℕ)
+  pub fit : AreOperands verb operands
+  pub words_are : words ≡ verb_text verb ∷ operands
 
 -- the words are the first of a form
 pub record BeginsForm (words : List (List ℕ)) : Type 0 where

@@ -9,7 +9,7 @@ use std::fmt;
 pub enum RunFault {
     /// The place, from 1, of the first word that fits no form; one past the last where a word is missing.
     Words(usize),
-    /// The line with this number, from 1, is the first of the script that is refused, for this. A script or a stream that is too long has line 0.
+    /// The line with this number, from 1, is the first of the script or journal that is refused, for this. A script, a journal or a stream that is too long has line 0.
     Script(u64, LineKind),
     /// The source failed.
     ReadFault,

@@ -1,9 +1,9 @@
 // What each command of the program leaves.
 ghost use Rattle.std.specs.Prelude.{◌≡◌, [], Some, IsNone};
 ghost use Rattle.n41_run.specs.Causes.{status};
-ghost use Rattle.n41_run.specs.Finishes.{DumpEnds, HasNoClient, ProbeEnds, RunEnds, of_perform};
+ghost use Rattle.n41_run.specs.Finishes.{DumpEnds, HasNoClient, ProbeEnds, ReplayEnds, RunEnds, of_perform};
 
-use crate::{Finish, RunFault, dump, probe};
+use crate::{Finish, RunFault, dump, probe, replay};
 use n41_journal::Journal;
 use n41_lines::Side;
 use n41_link::{Clock, Dialer, Listener, Sink, Source};
@@ -165,4 +165,24 @@ pub(crate) fn finish_dump<S: Source, K: Sink, D: Dialer, H: Listener, C>(
 {
     let (_, fault) = dump(alloc, side, source, sink);
     without_client(alloc, fault, dialer, house, clock)
+}
+
+/// A journal from the source, checked by itself.
+pub(crate) fn finish_replay<S: Source, K: Sink, D: Dialer, H: Listener, C>(
+    alloc: Global,
+    source: &mut S,
+    sink: &mut K,
+    dialer: D,
+    house: H,
+    clock: C,
+) -> Finish<D, H, C>
+    ensures ends { ReplayEnds result.status result.fault (S.left source.old) (S.left source.new) (S.faults source.old) (S.faults source.new) (K.taken sink.old) (K.taken sink.new) (K.faults sink.old) (K.faults sink.new) }
+    ensures no_link { IsNone result.probed }
+    ensures no_client { HasNoClient result.journal.events result.wires.items }
+    ensures same { (result.dialer ≡ dialer) × (result.house ≡ house) × (result.clock ≡ clock) }
+{
+    let (status, fault) = replay(alloc, source, sink);
+    let mut finish = without_client(alloc, fault, dialer, house, clock);
+    finish.status = status;
+    finish
 }

@@ -5,6 +5,7 @@ mod dumping;
 mod fault;
 mod finishing;
 mod probing;
+mod replaying;
 mod running;
 mod words;
 
@@ -12,6 +13,7 @@ pub use dumping::dump;
 pub use fault::RunFault;
 pub use n41_probe::Talk;
 pub use probing::probe;
+pub use replaying::replay;
 pub use running::{Finish, run};
 pub use words::{Command, command_of};
 

@@ -190,3 +190,53 @@ fn streams_are_dumped_and_an_empty_script_asks_nothing(rt: HostRuntime) -> Resul
     }
     Ok(())
 }
+
+#[test]
+fn a_journal_is_replayed(rt: HostRuntime) -> Result<(), Fail> {
+    let alloc = rt.alloc();
+    let rows: [(&[&str], &[u8], u8, &[u8]); 6] = [
+        (&["replay"], b"", 0, b"ok 0\n"),
+        (
+            &["replay"],
+            b"began 0 1 5 pause 0\nanswered 0 1 paused\n",
+            0,
+            b"ok 2\n",
+        ),
+        (
+            &["replay"],
+            b"began 0 1 5 pause 0\nanswered 0 1 paused\nanswered 0 1 paused\n",
+            1,
+            b"event 3 breaks answers\n",
+        ),
+        (&["replay"], b"quit\nwent\n", 3, b""),
+        (&["replay", "x:1"], b"quit\n", 2, b""),
+        (&["replays"], b"quit\n", 2, b""),
+    ];
+    for (words, given, status, text) in rows {
+        let mut sink = SureSink::new(alloc);
+        let words = texts_of(alloc, words)?;
+        assert_eq!(rt; printed(&rt, alloc, &words, given, &mut sink)?, status);
+        assert_eq!(rt; sink.bytes(), text);
+    }
+    Ok(())
+}
+
+#[test]
+fn a_broken_rule_is_no_fault(rt: HostRuntime) -> Result<(), Fail> {
+    let alloc = rt.alloc();
+    let none: &[u64] = &[];
+    let first: &[u64] = &[1];
+    // The reads and the writes that fail.
+    for (reads, writes, status, fault) in [
+        (none, none, 1, None),
+        (first, none, 4, Some(RunFault::ReadFault)),
+        (none, first, 5, Some(RunFault::WriteFault)),
+    ] {
+        let mut source = MemSource::new(alloc, b"answered 0 1 paused\n", reads)?;
+        let mut sink = MemSink::new(alloc, writes)?;
+        let ended = replay(alloc, &mut source, &mut sink);
+        assert_eq!(rt; ended.0, status);
+        assert_eq!(rt; ended.1, fault);
+    }
+    Ok(())
+}

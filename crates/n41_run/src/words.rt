@@ -1,4 +1,4 @@
-ghost use Rattle.std.specs.Prelude.{◌≡◌, ◌<◌, ◌++◌, ◌∷◌, ◌↔◌, ℕ, codes, List, length, get_or, map, string_bytes, IsTrue, IsOk, IfOk, IfErr, IfSome, IfNone};
+ghost use Rattle.std.specs.Prelude.{◌≡◌, ◌<◌, ◌++◌, [], ◌∷◌, ◌↔◌, ℕ, codes, List, length, get_or, map, string_bytes, IsTrue, IsOk, IfOk, IfErr, IfSome, IfNone};
 ghost use Rattle.n41_run.specs.Words.{IsPort, IsAddress, IsVerb, IsOperand, IsForm, IsFirstBad, verb_text, side_text};
 ghost use Rattle.n41_lines.specs.declared.side.Side.{Side as SideValue};
 ghost use Rattle.n41_run.specs.Asked.{Asks, Takes};
@@ -16,6 +16,8 @@ pub enum Command<'a> {
     Trace(&'a str),
     /// A line for each record of the input, which this side of a connection wrote.
     Dump(Side),
+    /// The journal on the input, checked by itself.
+    Replay,
 }
 
 /// The first words.
@@ -25,6 +27,7 @@ pub(crate) enum Verb {
     Run,
     Trace,
     Dump,
+    Replay,
 }
 
 fn verb_of(word: &str) -> Option<Verb>
@@ -36,6 +39,7 @@ fn verb_of(word: &str) -> Option<Verb>
         "run" => Some(Verb::Run),
         "trace" => Some(Verb::Trace),
         "dump" => Some(Verb::Dump),
+        "replay" => Some(Verb::Replay),
         _ => None,
     }
 }
@@ -81,7 +85,7 @@ fn is_address(text: &str) -> bool
 
 /// What a first word and the word behind it ask for. None exactly where that does not fit.
 fn command_with(verb: Verb, word: &str) -> Option<Command<'_>>
-    ensures some { IfSome result (λ command. Takes verb word.now command) }
+    ensures some { IfSome result (λ command. Takes verb (word.now ∷ []) command) }
     ensures none { IfNone result (IsOperand verb word.now → ⊥) }
 {
     match verb {
@@ -92,6 +96,17 @@ fn command_with(verb: Verb, word: &str) -> Option<Command<'_>>
             Some(side) => Some(Command::Dump(side)),
             None => None,
         },
+        _ => None,
+    }
+}
+
+/// What a first word alone asks for. None exactly where a word has to stand behind it.
+fn command_alone<'a>(verb: Verb) -> Option<Command<'a>>
+    ensures some { IfSome result (λ command. Takes verb [] command) }
+    ensures none { IfNone result (verb ≡ Verb.Replay → ⊥) }
+{
+    match verb {
+        Verb::Replay => Some(Command::Replay),
         _ => None,
     }
 }
@@ -109,7 +124,7 @@ pub fn command_of(words: &[String]) -> Result<Command<'_>, usize>
         return Err(1);
     };
     let Some((second, more)) = others.split_first() else {
-        return Err(2);
+        return command_alone(verb).ok_or(2);
     };
     let Some(command) = command_with(verb, second.as_str()) else {
         return Err(2);

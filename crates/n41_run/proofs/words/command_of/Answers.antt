@@ -1,7 +1,7 @@
-use Rattle.std.proofs.Common.{◌≡◌, ◌∷◌, ◌∙◌, [], map, string_bytes, ap, sym, arith}
+use Rattle.std.proofs.Common.{◌≡◌, ◌∷◌, ◌∙◌, [], map, string_bytes, ap, refl, sym, arith}
 use Rattle.std.proofs.lemmas.Bool.Decides.{nat_tests}
 use Rattle.n41_run.specs.Words.{IsOperand, verb_text}
-use Rattle.n41_run.proofs.Forms.{no_words, other_first, no_operand, bad_operand, bad_at, empty_is, joined, two_texts, more_bad, taken_fits, same_fits}
+use Rattle.n41_run.proofs.Forms.{no_words, other_first, alone_bad, alone_asks, bad_operand, bad_at, empty_is, joined, two_texts, more_bad, taken_fits, same_fits}
 use Rattle.n41_run.proofs.words.command_of.Goals as goal
 
 pub returns-in_default-clause-bad : goal.returns-in_default-clause-bad
@@ -17,7 +17,13 @@ pub returns-in_default-split_first-clause-bad : goal.returns-in_default-split_fi
 returns-in_default-split_first-clause-bad c =
     let first : string_bytes c.in-Some.first.now ≡ verb_text c.in-Some-verb_of.verb = sym c.as_str.ensures.value ∙ c.in-Some-verb_of.ensures.some in
     let others : c.in-Some.others.now ≡ [] = empty_is c.in-Some.others.now c.in_default-split_first.ensures.cases in
-    bad_at _ (verb_text c.in-Some-verb_of.verb ∷ []) 2 (ap (map string_bytes) c.in-Some.ensures.cases.0 ∙ joined first (ap (map string_bytes) others)) (no_operand c.in-Some-verb_of.verb)
+    alone_bad _ c.in-Some-verb_of.verb c.command_alone.result c.ok_or.result (ap (map string_bytes) c.in-Some.ensures.cases.0 ∙ joined first (ap (map string_bytes) others)) c.ok_or.ensures.value c.command_alone.ensures.none
+
+pub returns-in_default-split_first-clause-asks : goal.returns-in_default-split_first-clause-asks
+returns-in_default-split_first-clause-asks c =
+    let first : string_bytes c.in-Some.first.now ≡ verb_text c.in-Some-verb_of.verb = sym c.as_str.ensures.value ∙ c.in-Some-verb_of.ensures.some in
+    let others : c.in-Some.others.now ≡ [] = empty_is c.in-Some.others.now c.in_default-split_first.ensures.cases in
+    alone_asks _ c.in-Some-verb_of.verb c.command_alone.result c.ok_or.result (ap (map string_bytes) c.in-Some.ensures.cases.0 ∙ joined first (ap (map string_bytes) others)) c.ok_or.ensures.value c.command_alone.ensures.some
 
 pub returns-in_default-command_with-clause-bad : goal.returns-in_default-command_with-clause-bad
 returns-in_default-command_with-clause-bad c =
@@ -30,6 +36,13 @@ pub returns-then-not-is_empty-clause-bad : goal.returns-then-not-is_empty-clause
 returns-then-not-is_empty-clause-bad c =
     let v = c.in-Some-verb_of.verb in
     let first : string_bytes c.in-Some.first.now ≡ verb_text v = sym c.as_str.ensures.value ∙ c.in-Some-verb_of.ensures.some in
-    let fits : IsOperand v (string_bytes c.in-Some-split_first.second.now) = same_fits v _ _ c.as_str-2.ensures.value (taken_fits v _ _ c.in-Some-command_with.ensures.some) in
+    let fits : IsOperand v (string_bytes c.in-Some-split_first.second.now) = same_fits v _ _ c.as_str-2.ensures.value (taken_fits v _ _ c.in-Some-command_with.ensures.some).0 in
     bad_at _ _ 3 (two_texts _ _ _ _ _ v c.in-Some.ensures.cases.0 c.in-Some-split_first.ensures.cases.0 first)
     (more_bad v (string_bytes c.in-Some-split_first.second.now) c.in-Some-split_first.more.now fits (grind (arith, nat_tests)))
+
+pub returns-clause-asks : goal.returns-clause-asks
+returns-clause-asks c =
+    let v = c.in-Some-verb_of.verb in
+    let first : string_bytes c.in-Some.first.now ≡ verb_text v = sym c.as_str.ensures.value ∙ c.in-Some-verb_of.ensures.some in
+    let more : c.in-Some-split_first.more.now ≡ [] = empty_is c.in-Some-split_first.more.now (grind (arith, nat_tests)) in
+    (v, c.as_str-2.result.now ∷ [], two_texts _ _ _ _ _ v c.in-Some.ensures.cases.0 c.in-Some-split_first.ensures.cases.0 first ∙ joined refl (joined (sym c.as_str-2.ensures.value) (ap (map string_bytes) more)), c.in-Some-command_with.ensures.some)
