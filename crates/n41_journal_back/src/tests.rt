@@ -12,7 +12,7 @@ use n41_types::{
     Answer, Bytes, Command, Label, Loss, NoMemory, Place, Plan, Request, SessionId, SlotUse,
     Status, Texts, Value,
 };
-use std::alloc::{AllocError, Global};
+use std::alloc::Global;
 
 /// The answer to an EXCHANGE_ID.
 const NAMED: &str =
@@ -26,15 +26,15 @@ const NULL: &str =
 const RECALLED: &str =
     "0000000900000001000000000000000000000000000000000000000000000000000000020000000b00000000000102030405060708090a0b0c0d0e0f000000010000000000000003000000030000000400000000";
 
+#[tactic(auto, using(n41_journal_text::proofs::Reversed::all_more))]
 fn add(journal: &mut Journal, event: Event) -> Result<(), NoMemory>
     requires all { AllTellable journal.old.events }
     requires one { IsTellable event }
     ensures { OnOk result (AllTellable journal.new.events) }
 {
-    match journal.push(event) {
-        Ok(()) => Ok(()),
-        Err(_) => Err(AllocError),
-    }
+    journal.reserve(1)?;
+    journal.add(event);
+    Ok(())
 }
 
 /// Whether the text of a journal says the same events.
