@@ -11,7 +11,9 @@ use std::alloc::AllocError;
 #[derive(Drop)]
 pub enum Step {
     /// The client did something, or met something that is no reply.
-    Does { event: Event },
+    Does {
+        event: Event,
+    },
     /// The client took the answer to a message from its connection, at this place.
     Takes {
         message: u64,
@@ -57,7 +59,10 @@ pub enum Step {
         bound: Bound,
     },
     /// DESTROY_SESSION or DESTROY_CLIENTID removes a session or a client id.
-    Ends { message: u64, request: Request },
+    Ends {
+        message: u64,
+        request: Request,
+    },
 }
 
 /// A step that runs a request.
