@@ -91,63 +91,22 @@ some_is o p r b e d = (λ h. sym e ∙ ap Some (d.0 h), λ f. (let g : Some p �
 pub none_no : {A : Type 0} (o : Option A) (r : A) → None ≡ o → Decides false (o ≡ Some r)
 none_no o r e = never (λ f. (let g : None ≡ Some r = e ∙ f in absurd (cc)))
 
--- ---- messages
-
-pub pending_is : (w : List Step) (k : ℕ) (r : Request) (a b : Bool) → Decides a (message (client w) k ≡ Some r) → b ≡ is_some (fate w k) → Decides (a && not b) (Pending w k r)
-pending_is w k r a b d e = (
-    λ h. (let p = both a (not b) h in record { put = d.0 p.0; fresh = not_some (fate w k) (ap not (sym e) ∙ p.1) }),
-    λ p. and a (not b) (d.1 p.put) (ap not (e ∙ ap is_some p.fresh))
-)
-
-pub taken_is : (w : List Step) (k c : ℕ) (y : Reply) (a b d : Bool) (x : ℕ) → a ≡ is_id (standing (client w)) c → Decides b (fate w k ≡ Some y) → d ≡ taken w k → x ≡ carrier (client w) k → Decides (((a && b) && not d) && (x == c)) (MayBeTaken w k c y)
-taken_is w k c y a b d x e f g i = (
-    λ h. (let p = both ((a && b) && not d) (x == c) h in
-    let q = both (a && b) (not d) p.0 in
-    let t = both a b q.0 in
-    record {
-      stands = (id_is (standing (client w)) c).0 (sym e ∙ t.0);
-      made = f.0 t.1;
-      new = sym g ∙ is_not d q.1;
-      here = sym i ∙ (Decides-eqb x c).0 p.1;
-    }),
-    λ m. and ((a && b) && not d) (x == c)
-    (and (a && b) (not d) (and a b (e ∙ (id_is (standing (client w)) c).1 m.stands) (f.1 m.made)) (to_not d (g ∙ m.new)))
-    ((Decides-eqb x c).1 (i ∙ m.here))
-)
-
 -- ---- requests with a slot
 
 pub run_is : (r : Request) (q : Sequenced) (xs : List Res) (a b c d : Bool) → a ≡ repeats r.slot q → b ≡ is_none (shape_of r (ran_reply r q xs)) → c ≡ is_uncached (end_status ok xs) → d ≡ (not (is_ok (end_status ok xs)) || has_its_answer r.plan xs) → Decides (((a && b) && not c) && d) (IsRun r q xs)
 run_is r q xs a b c d e f g i = (
-    λ h. (let p = both ((a && b) && not c) d h in
-    let s = both (a && b) (not c) p.0 in
-    let t = both a b s.0 in
-    record {
-      echoes = sym e ∙ t.0;
-      fits = (none_is (shape_of r (ran_reply r q xs))).0 (sym f ∙ t.1);
-      cached = sym g ∙ is_not c s.1;
-      told = λ k. told_of (is_ok (end_status ok xs)) (has_its_answer r.plan xs) k (sym i ∙ p.1);
-    }),
-    λ m. and ((a && b) && not c) d
-    (and (a && b) (not c) (and a b (e ∙ m.echoes) (f ∙ (none_is (shape_of r (ran_reply r q xs))).1 m.fits)) (to_not c (g ∙ m.cached)))
-    (i ∙ told_to (is_ok (end_status ok xs)) (has_its_answer r.plan xs) m.told)
-)
-
-pub may_run_is : (s : Sizes) (w : List Step) (r : Request) (u : SlotUse) (q : Sequenced) (xs : List Res) (a b c : Bool) → r.slot ≡ Some u → a ≡ (alive w u.sid && is_none (s r)) → b ≡ (u.turn == last w u.sid u.slot + 1) → Decides c (IsRun r q xs) → Decides ((a && b) && c) (MayRun s w r u q xs)
-may_run_is s w r u q xs a b c o e f g = (
-    λ h. (let p = both (a && b) c h in
-    let t = both a b p.0 in
-    let z = both (alive w u.sid) (is_none (s r)) (sym e ∙ t.0) in
-    record {
-      slot = o;
-      there = z.0;
-      fits = (none_is (s r)).0 z.1;
-      next = (Decides-eqb u.turn (last w u.sid u.slot + 1)).0 (sym f ∙ t.1) ∙ add-one (last w u.sid u.slot);
-      answer = g.0 p.1;
-    }),
-    λ m. and (a && b) c
-    (and a b (e ∙ and (alive w u.sid) (is_none (s r)) m.there ((none_is (s r)).1 m.fits)) (f ∙ (Decides-eqb u.turn (last w u.sid u.slot + 1)).1 (m.next ∙ sym (add-one (last w u.sid u.slot)))))
-    (g.1 m.answer)
+  λ h. (let p = both ((a && b) && not c) d h in
+      let s = both (a && b) (not c) p.0 in
+      let t = both a b s.0 in
+      record {
+        echoes = sym e ∙ t.0;
+        fits = (none_is (shape_of r (ran_reply r q xs))).0 (sym f ∙ t.1);
+        cached = sym g ∙ is_not c s.1;
+        told = λ k. told_of (is_ok (end_status ok xs)) (has_its_answer r.plan xs) k (sym i ∙ p.1);
+      }),
+  λ m. and ((a && b) && not c) d
+      (and (a && b) (not c) (and a b (e ∙ m.echoes) (f ∙ (none_is (shape_of r (ran_reply r q xs))).1 m.fits)) (to_not c (g ∙ m.cached)))
+      (i ∙ told_to (is_ok (end_status ok xs)) (has_its_answer r.plan xs) m.told),
 )
 
 -- the three parts of a reply that was not kept
@@ -156,33 +115,31 @@ Uncached r u y = (u.cache ≡ false) × (is_uncached_body r.slot y.body ≡ true
 
 uncached_is : (r : Request) (u : SlotUse) (y : Reply) (e : Bool) → e ≡ ((not u.cache && is_uncached_body r.slot y.body) && is_none (shape_of r y)) → Decides e (Uncached r u y)
 uncached_is r u y e f = (
-    λ h. (let p = both (not u.cache && is_uncached_body r.slot y.body) (is_none (shape_of r y)) (sym f ∙ h) in
-    let q = both (not u.cache) (is_uncached_body r.slot y.body) p.0 in
-    (is_not u.cache q.0, q.1, (none_is (shape_of r y)).0 p.1)),
-    λ m. f ∙ and (not u.cache && is_uncached_body r.slot y.body) (is_none (shape_of r y)) (and (not u.cache) (is_uncached_body r.slot y.body) (to_not u.cache m.0) m.1) ((none_is (shape_of r y)).1 m.2)
+  λ h. (let p = both (not u.cache && is_uncached_body r.slot y.body) (is_none (shape_of r y)) (sym f ∙ h) in
+      let q = both (not u.cache) (is_uncached_body r.slot y.body) p.0 in
+      (is_not u.cache q.0, q.1, (none_is (shape_of r y)).0 p.1)),
+  λ m. f ∙ and (not u.cache && is_uncached_body r.slot y.body) (is_none (shape_of r y)) (and (not u.cache) (is_uncached_body r.slot y.body) (to_not u.cache m.0) m.1) ((none_is (shape_of r y)).1 m.2),
 )
 
-pub may_repeat_is : (s : Sizes) (w : List Step) (r : Request) (u : SlotUse) (y : Reply) (a d e : Bool) (t : ℕ) → r.slot ≡ Some u → a ≡ (alive w u.sid && is_none (s r)) → t ≡ last w u.sid u.slot → Decides d (kept w u.sid u.slot ≡ Some y.body) → e ≡ ((not u.cache && is_uncached_body r.slot y.body) && is_none (shape_of r y)) → Decides (((a && (u.turn == t)) && (y.xid == r.xid)) && (d || e)) (MayRepeat s w r u y)
-may_repeat_is s w r u y a d e t o f g i j = (
-    λ h. (let p = both ((a && (u.turn == t)) && (y.xid == r.xid)) (d || e) h in
-    let q = both (a && (u.turn == t)) (y.xid == r.xid) p.0 in
-    let k = both a (u.turn == t) q.0 in
-    let z = both (alive w u.sid) (is_none (s r)) (sym f ∙ k.0) in
-    record {
-      slot = o;
-      there = z.0;
-      fits = (none_is (s r)).0 z.1;
-      last_turn = (Decides-eqb u.turn t).0 k.1 ∙ g;
-      xid = (Decides-eqb y.xid r.xid).0 q.1;
-      answer = answered (one_of d e p.1);
-    }),
-    λ m. and ((a && (u.turn == t)) && (y.xid == r.xid)) (d || e)
-    (and (a && (u.turn == t)) (y.xid == r.xid)
-    (and a (u.turn == t) (f ∙ and (alive w u.sid) (is_none (s r)) m.there ((none_is (s r)).1 m.fits)) ((Decides-eqb u.turn t).1 (m.last_turn ∙ sym g)))
-    ((Decides-eqb y.xid r.xid).1 m.xid))
-    (tested m.answer)
-)
-where
+pub may_repeat_is : (s : Sizes) (w : List Step) (r : Request) (u : SlotUse) (y : Reply) (a b d e : Bool) → r.slot ≡ Some u → a ≡ (alive w u.sid && is_none (s r)) → b ≡ ((u.turn == last w u.sid u.slot) && (y.xid == r.xid)) → Decides d (kept w u.sid u.slot ≡ Some y.body) → e ≡ ((not u.cache && is_uncached_body r.slot y.body) && is_none (shape_of r y)) → Decides ((a && b) && (d || e)) (MayRepeat s w r u y)
+may_repeat_is s w r u y a b d e o f g i j = (
+  λ h. (let p = both (a && b) (d || e) h in
+      let q = both a b p.0 in
+      let z = both (alive w u.sid) (is_none (s r)) (sym f ∙ q.0) in
+      let t = both (u.turn == last w u.sid u.slot) (y.xid == r.xid) (sym g ∙ q.1) in
+      record {
+        slot = o;
+        there = z.0;
+        fits = (none_is (s r)).0 z.1;
+        last_turn = (Decides-eqb u.turn (last w u.sid u.slot)).0 t.0;
+        xid = (Decides-eqb y.xid r.xid).0 t.1;
+        answer = answered (one_of d e p.1);
+      }),
+  λ m. and (a && b) (d || e)
+      (and a b (f ∙ and (alive w u.sid) (is_none (s r)) m.there ((none_is (s r)).1 m.fits))
+      (g ∙ and (u.turn == last w u.sid u.slot) (y.xid == r.xid) ((Decides-eqb u.turn (last w u.sid u.slot)).1 m.last_turn) ((Decides-eqb y.xid r.xid).1 m.xid)))
+      (tested m.answer),
+) where
   answered : (d ≡ true) ⊎ (e ≡ true) → (kept w u.sid u.slot ≡ Some y.body) ⊎ Uncached r u y
   answered (inl k) = inl (i.0 k)
   answered (inr k) = inr ((uncached_is r u y e j).0 k)
@@ -190,72 +147,3 @@ where
   tested : (kept w u.sid u.slot ≡ Some y.body) ⊎ Uncached r u y → (d || e) ≡ true
   tested (inl k) = or_left d e (i.1 k)
   tested (inr k) = or_right d e ((uncached_is r u y e j).1 k)
-
--- ---- requests without a slot
-
-pub names_is : (w : List Step) (i : Identity) (o : Option ℕ) (a b : Bool) → o ≡ confirmed w → a ≡ is_id o i.client → b ≡ was_named w i.client → Decides (a || (is_none o && not b)) (NamesAgain w i)
-names_is w i o a b e f g = (λ h. named (one_of a (is_none o && not b) h), tested)
-where
-  named : (a ≡ true) ⊎ ((is_none o && not b) ≡ true) → NamesAgain w i
-  named (inl h) = inl (sym e ∙ (id_is o i.client).0 (sym f ∙ h))
-  named (inr h) = let p = both (is_none o) (not b) h in inr (sym e ∙ (none_is o).0 p.0, sym g ∙ is_not b p.1)
-
-  tested : NamesAgain w i → (a || (is_none o && not b)) ≡ true
-  tested (inl h) = or_left a (is_none o && not b) (f ∙ (id_is o i.client).1 (e ∙ h))
-  tested (inr h) = or_right a (is_none o && not b) (and (is_none o) (not b) ((none_is o).1 (e ∙ h.0)) (to_not b (g ∙ h.1)))
-
-pub makes_next_is : (w : List Step) (c n : ℕ) (m : SessionMade) (a b d : Bool) (x : ℕ) → a ≡ is_there w c → x ≡ next_sequence w c → b ≡ was_made w m.sid → d ≡ is_wide_enough m → Decides (((a && (n == x)) && not b) && d) (MakesNext w c n m)
-makes_next_is w c n m a b d x e f g i = (
-    λ h. (let p = both ((a && (n == x)) && not b) d h in
-    let q = both (a && (n == x)) (not b) p.0 in
-    let t = both a (n == x) q.0 in
-    record { there = sym e ∙ t.0; next = (Decides-eqb n x).0 t.1 ∙ f; fresh = sym g ∙ is_not b q.1; wide = sym i ∙ p.1 }),
-    λ k. and ((a && (n == x)) && not b) d (and (a && (n == x)) (not b) (and a (n == x) (e ∙ k.there) ((Decides-eqb n x).1 (k.next ∙ sym f))) (to_not b (g ∙ k.fresh))) (i ∙ k.wide)
-)
-
-pub makes_again_is : (w : List Step) (r : Request) (c n : ℕ) (m : SessionMade) (y : Reply) (a b d : Bool) → last_made w c ≡ Some m → a ≡ is_there w c → b ≡ is_last n (next_sequence w c) → Decides d (y ≡ made_reply r m) → Decides ((a && b) && d) ((x : SessionMade) × MakesAgain w r c n x y)
-makes_again_is w r c n m y a b d o e f g = (
-    λ h. (let p = both (a && b) d h in
-    let q = both a b p.0 in
-    (m, record { there = sym e ∙ q.0; last_one = sym f ∙ q.1; same = o; answer = g.0 p.1 })),
-    λ k. (let z : m ≡ k.0 = (let j : Some m ≡ Some k.0 = sym o ∙ k.1.same in cc) in
-    and (a && b) d (and a b (e ∙ k.1.there) (f ∙ k.1.last_one)) (g.1 (k.1.answer ∙ ap (λ (x : SessionMade). made_reply r x) (sym z))))
-)
-
-pub makes_none : (w : List Step) (r : Request) (c n : ℕ) (y : Reply) → last_made w c ≡ None → Decides false ((x : SessionMade) × MakesAgain w r c n x y)
-makes_none w r c n y o = never (λ k. (let j : None ≡ Some k.0 = sym o ∙ k.1.same in absurd (cc)))
-
--- ---- steps
-
-pub runs_is : (s : Sizes) (w : List Step) (k : ℕ) (r : Request) (u : SlotUse) (q : Sequenced) (xs : List Res) (a b : Bool) → r.slot ≡ Some u → Decides a (Pending w k r) → Decides b (MayRun s w r u q xs) → Decides (a && b) (Allowed s w (Runs k r q xs))
-runs_is s w k r u q xs a b o d e = (
-    λ h. (let p = both a b h in (d.0 p.0, (u, e.0 p.1))),
-    λ m. (let z : u ≡ m.1.0 = (let j : Some u ≡ Some m.1.0 = sym o ∙ m.1.1.slot in cc) in
-    and a b (d.1 m.0) (e.1 (subst (λ (x : SlotUse). MayRun s w r x q xs) (sym z) m.1.1)))
-)
-
-pub runs_none : (s : Sizes) (w : List Step) (k : ℕ) (r : Request) (q : Sequenced) (xs : List Res) → r.slot ≡ None → Decides false (Allowed s w (Runs k r q xs))
-runs_none s w k r q xs o = never (λ m. (let j : None ≡ Some m.1.0 = sym o ∙ m.1.1.slot in absurd (cc)))
-
-pub repeats_is : (s : Sizes) (w : List Step) (k : ℕ) (r : Request) (u : SlotUse) (y : Reply) (a b : Bool) → r.slot ≡ Some u → Decides a (Pending w k r) → Decides b (MayRepeat s w r u y) → Decides (a && b) (Allowed s w (Repeats k r y))
-repeats_is s w k r u y a b o d e = (λ h. (let p = both a b h in (d.0 p.0, inl (u, e.0 p.1))), λ m. and a b (d.1 m.0) (tested m.1))
-where
-  tested : ((x : SlotUse) × MayRepeat s w r x y) ⊎ ((r.slot ≡ None) × MayMakeAgain w r r.plan y) → b ≡ true
-  tested (inl m) = let z : u ≡ m.0 = (let j : Some u ≡ Some m.0 = sym o ∙ m.1.slot in cc) in e.1 (subst (λ (x : SlotUse). MayRepeat s w r x y) (sym z) m.1)
-  tested (inr m) = let j : Some u ≡ None = sym o ∙ m.0 in absurd (cc)
-
-pub repeats_bare : (s : Sizes) (w : List Step) (k : ℕ) (r : Request) (y : Reply) (a b : Bool) → r.slot ≡ None → Decides a (Pending w k r) → Decides b (MayMakeAgain w r r.plan y) → Decides (a && b) (Allowed s w (Repeats k r y))
-repeats_bare s w k r y a b o d e = (λ h. (let p = both a b h in (d.0 p.0, inr (o, e.0 p.1))), λ m. and a b (d.1 m.0) (tested m.1))
-where
-  tested : ((x : SlotUse) × MayRepeat s w r x y) ⊎ ((r.slot ≡ None) × MayMakeAgain w r r.plan y) → b ≡ true
-  tested (inl m) = let j : None ≡ Some m.0 = sym o ∙ m.1.slot in absurd (cc)
-  tested (inr m) = e.1 m.1
-
--- of a request without a slot
-pub bare_is : {P : Type 0} (w : List Step) (k : ℕ) (r : Request) (a b c : Bool) → Decides a (Pending w k r) → b ≡ is_none r.slot → Decides c P → Decides ((a && b) && c) (Pending w k r × ((r.slot ≡ None) × P))
-bare_is w k r a b c d e f = (
-    λ h. (let p = both (a && b) c h in
-    let q = both a b p.0 in
-    (d.0 q.0, ((none_is r.slot).0 (sym e ∙ q.1), f.0 p.1))),
-    λ m. and (a && b) c (and a b (d.1 m.0) (e ∙ (none_is r.slot).1 m.1.0)) (f.1 m.1.1)
-)

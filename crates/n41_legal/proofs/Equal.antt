@@ -1,5 +1,5 @@
 -- Replies that are equal by their test are equal.
-use Rattle.std.proofs.Common.{◌≡◌, ℕ, Bool, true, false, ◌&&◌, List, [], ◌∷◌, Option, Some, None, Result, Ok, Err, refl, sym, subst, true≢false}
+use Rattle.std.proofs.Common.{◌≡◌, ℕ, Bool, true, false, ◌&&◌, List, [], ◌∷◌, Option, Some, None, Result, Ok, Err, refl, sym, ◌∙◌, subst, true≢false}
 use Rattle.std.specs.Prelude.{nat_eq}
 use Rattle.std.specs.Bool.{beq, Decides}
 use Rattle.std.specs.Option.{option_eq}
@@ -572,3 +572,7 @@ reply_is p q = (reply_same p q, λ e. subst (λ (r : Reply). replies.ghosts.eq p
 
 pub body_is : (p q : ReplyBody) → Decides (bodies.ghosts.eq p q) (p ≡ q)
 body_is p q = (body_same p q, λ e. subst (λ (r : ReplyBody). bodies.ghosts.eq p r ≡ true) e (body-law.refl p))
+
+-- a test against what is the same as another
+pub reply_as : (p k q : Reply) (b : Bool) → b ≡ replies.ghosts.eq p k → k ≡ q → Decides b (p ≡ q)
+reply_as p k q b e f = let d = reply_is p k in (λ h. d.0 (sym e ∙ h) ∙ f, λ h. e ∙ d.1 (h ∙ sym f))

@@ -22,7 +22,7 @@ use Rattle.n41_legal.proofs.Equal.{session_id_same}
 
 -- ---- the first illegal step
 
-pub illegal_earlier : (s : Sizes) (w : List Step) (st : Step) (p : ℕ) → IsIllegal s w p → IsIllegal s (st ∷ w) p
+illegal_earlier : (s : Sizes) (w : List Step) (st : Step) (p : ℕ) → IsIllegal s w p → IsIllegal s (st ∷ w) p
 illegal_earlier s w st p i = record {
   after = st ∷ i.after;
   step = i.step;
@@ -33,55 +33,23 @@ illegal_earlier s w st p i = record {
   refused = i.refused;
 }
 
-pub illegal_now : (s : Sizes) (w : List Step) (st : Step) (p : ℕ) (b : Bool) → p ≡ length w + 1 → LegalBy s w → Decides b (Allowed s w st) → b ≡ false → IsIllegal s (st ∷ w) p
-illegal_now s w st p b e l d f = record {
+pub earlier : (s : Sizes) (xs w : List Step) (st : Step) (p : ℕ) (o : Option ℕ) → xs ≡ st ∷ w → o ≡ Some p → IsLegality s w o → IsIllegal s xs p
+earlier s xs w st p o e f i = subst (λ (v : List Step). IsIllegal s v p) (sym e) (illegal_earlier s w st p (subst (λ (x : Option ℕ). IsLegality s w x) f i))
+
+nothing : (o : Option ℕ) → ((p : ℕ) → o ≢ Some p) → o ≡ None
+nothing None f = refl
+nothing (Some p) f = absurd (f p refl)
+
+pub illegal_now : (s : Sizes) (xs w : List Step) (st : Step) (o : Option ℕ) (b : Bool) → xs ≡ st ∷ w → ((p : ℕ) → o ≢ Some p) → IsLegality s w o → Decides b (Allowed s w st) → b ≡ false → IsIllegal s xs (length w + 1)
+illegal_now s xs w st o b e f i d g = record {
   after = [];
   step = st;
   before = w;
-  parts = refl;
-  place_is = e;
-  legal = l;
-  refused = λ a. absurd (true≢false (sym (d.1 a) ∙ f));
+  parts = e;
+  place_is = refl;
+  legal = subst (λ (x : Option ℕ). IsLegality s w x) (nothing o f) i;
+  refused = λ a. absurd (true≢false (sym (d.1 a) ∙ g));
 }
-
--- ---- the other plans
-
-pub name_else : (w : List Step) (p : Plan) (i : Identity) → ((v o : List ℕ) → p ≢ plan.ExchangeId v o) → Decides false (MayName w p i)
-name_else w (plan.ExchangeId v o) i f = absurd (f v o refl)
-name_else w p i f = never (λ x. x)
-
-pub make_else : (w : List Step) (p : Plan) (m : SessionMade) → ((c n : ℕ) → p ≢ plan.CreateSession c n) → Decides false (MayMake w p m)
-make_else w (plan.CreateSession c n) m f = absurd (f c n refl)
-make_else w p m f = never (λ x. x)
-
-pub again_else : (w : List Step) (r : Request) (p : Plan) (y : Reply) → ((c n : ℕ) → p ≢ plan.CreateSession c n) → Decides false (MayMakeAgain w r p y)
-again_else w r (plan.CreateSession c n) y f = absurd (f c n refl)
-again_else w r p y f = never (λ x. x)
-
-pub bind_else : (w : List Step) (p : Plan) → ((i : SessionId) → p ≢ plan.Bind i) → Decides false (MayBind w p)
-bind_else w (plan.Bind i) f = absurd (f i refl)
-bind_else w p f = never (λ x. x)
-
-pub end_else : (w : List Step) (p : Plan) → ((i : SessionId) → p ≢ plan.DestroySession i) → ((c : ℕ) → p ≢ plan.DestroyClient c) → Decides false (MayEnd w p)
-end_else w (plan.DestroySession i) f g = absurd (f i refl)
-end_else w (plan.DestroyClient c) f g = absurd (g c refl)
-end_else w p f g = never (λ x. x)
-
-pub test_is : (a b : Bool) → b ≡ a → Decides b (a ≡ true)
-test_is a b e = (λ h. sym e ∙ h, λ h. e ∙ h)
-
--- ---- events
-
-pub reply_not : (e : Event) (c p : ℕ) (y : Reply) → e ≡ Took c p y → Decides false (IsNoReply e)
-reply_not e c p y f = never (λ i. subst (λ (x : Event). IsNoReply x) f i)
-
-pub callback_not : (e : Event) (c p : ℕ) (x : CbCall) → e ≡ CbTook c p x → Decides false (IsNoReply e)
-callback_not e c p x f = never (λ i. subst (λ (z : Event). IsNoReply z) f i)
-
-pub no_reply : (e : Event) → ((c p : ℕ) (y : Reply) → e ≢ Took c p y) → ((c p : ℕ) (x : CbCall) → e ≢ CbTook c p x) → Decides true (IsNoReply e)
-no_reply (Took c p y) f g = absurd (f c p y refl)
-no_reply (CbTook c p x) f g = absurd (g c p x refl)
-no_reply e f g = (λ h. tt, λ h. refl)
 
 -- ---- sessions of a client id
 
@@ -89,23 +57,23 @@ no_reply e f g = (λ h. tt, λ h. refl)
 same_session : (m i : SessionId) → is_session m i ≡ true → m ≡ i
 same_session m i e = session_id_same m i e
 
+still : (x y : Bool) → (if x then false else y) ≡ true → y ≡ true
+still true y e = absurd (true≢false (sym e))
+still false y e = e
+
 -- none of the sessions that these steps made is one of the client id, of all that are there
 bare_of : (v w : List Step) (c : ℕ) → is_bare v w c ≡ true → (i : SessionId) → alive v i ≡ true → alive w i ≡ true → made_for w i ≢ Some c
 bare_of [] w c b i a l = absurd (true≢false (sym a))
 bare_of (Makes k r m ∷ v) w c b i a l =
     let p = both (not (alive w m.sid && is_id (made_for w m.sid) c)) (is_bare v w c) b in
-    at_test (is_session m.sid i) refl p
-where
-  at_test : (t : Bool) → is_session m.sid i ≡ t → (not (alive w m.sid && is_id (made_for w m.sid) c) ≡ true) × (is_bare v w c ≡ true) → made_for w i ≢ Some c
-  at_test true e p =
-      let s = same_session m.sid i e in
-      λ f. (let g : (alive w m.sid && is_id (made_for w m.sid) c) ≡ true = and (alive w m.sid) (is_id (made_for w m.sid) c) (ap (λ (x : SessionId). alive w x) s ∙ l) ((id_is (made_for w m.sid) c).1 (ap (λ (x : SessionId). made_for w x) s ∙ f)) in
-      true≢false (sym g ∙ is_not (alive w m.sid && is_id (made_for w m.sid) c) p.0))
-  at_test false e p = bare_of v w c p.1 i (sym (ap (λ (x : Bool). x || alive v i) e) ∙ a) l
-bare_of (Ends k r ∷ v) w c b i a l = bare_of v w c b i (still (is_end_of r.plan i) (alive v i) a) l where
-  still : (x y : Bool) → (if x then false else y) ≡ true → y ≡ true
-  still true y e = absurd (true≢false (sym e))
-  still false y e = e
+    at_test (is_session m.sid i) refl p.0 (λ h. bare_of v w c p.1 i h l) where
+      at_test : (t : Bool) → is_session m.sid i ≡ t → not (alive w m.sid && is_id (made_for w m.sid) c) ≡ true → (alive v i ≡ true → made_for w i ≢ Some c) → made_for w i ≢ Some c
+      at_test true e p g =
+          let s = same_session m.sid i e in
+          λ f. (let h : (alive w m.sid && is_id (made_for w m.sid) c) ≡ true = and (alive w m.sid) (is_id (made_for w m.sid) c) (ap (λ (x : SessionId). alive w x) s ∙ l) ((id_is (made_for w m.sid) c).1 (ap (λ (x : SessionId). made_for w x) s ∙ f)) in
+          true≢false (sym h ∙ is_not (alive w m.sid && is_id (made_for w m.sid) c) p))
+      at_test false e p g = g (sym (ap (λ (x : Bool). x || alive v i) e) ∙ a)
+bare_of (Ends k r ∷ v) w c b i a l = bare_of v w c b i (still (is_end_of r.plan i) (alive v i) a) l
 bare_of (Does e ∷ v) w c b i a l = bare_of v w c b i a l
 bare_of (Takes k d p y ∷ v) w c b i a l = bare_of v w c b i a l
 bare_of (Runs k r q xs ∷ v) w c b i a l = bare_of v w c b i a l
@@ -134,8 +102,11 @@ bare_to (Names k r x ∷ v) w c f = bare_to v w c f
 bare_to (Binds k r x ∷ v) w c f = bare_to v w c f
 bare_to (Ends k r ∷ v) w c f = bare_to v w c f
 
-pub ends_is : (w : List Step) (c : ℕ) (a b : Bool) → a ≡ is_there w c → b ≡ is_bare w w c → Decides (a && b) (EndsClient w c)
+ends_is : (w : List Step) (c : ℕ) (a b : Bool) → a ≡ is_there w c → b ≡ is_bare w w c → Decides (a && b) (EndsClient w c)
 ends_is w c a b e f = (
-    λ h. (let p = both a b h in record { there = sym e ∙ p.0; bare = λ i l. bare_of w w c (sym f ∙ p.1) i l l }),
-    λ m. and a b (e ∙ m.there) (f ∙ bare_to w w c m.bare)
+  λ h. (let p = both a b h in record { there = sym e ∙ p.0; bare = λ i l. bare_of w w c (sym f ∙ p.1) i l l }),
+  λ m. and a b (e ∙ m.there) (f ∙ bare_to w w c m.bare),
 )
+
+pub ends_then : (w : List Step) (c : ℕ) (a b : Bool) → a ≡ true → a ≡ is_there w c → b ≡ is_bare w w c → Decides b (EndsClient w c)
+ends_then w c a b g e f = subst (λ (x : Bool). Decides (x && b) (EndsClient w c)) g (ends_is w c a b e f)

@@ -1,4 +1,4 @@
 pub mod Equal
 pub mod Deciding
-pub mod Fates
 pub mod Illegal
+pub mod Parts

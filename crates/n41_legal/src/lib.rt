@@ -2,12 +2,12 @@
 #![tactic(auto)]
 
 mod bare;
-mod messages;
+mod net;
 mod replies;
 mod rules;
 mod server;
 mod sizes;
 mod slots;
 
-pub use messages::messages;
+pub use net::messages;
 pub use rules::first_illegal;

@@ -49,11 +49,7 @@ fn single_reply(
 }
 
 /// The result of SEQUENCE, and those behind it.
-fn with_sequence(
-    alloc: Global,
-    sequenced: Sequenced,
-    results: &[Res],
-) -> Result<Vec<Res>, NoMemory>
+fn with_sequence(alloc: Global, sequenced: Sequenced, results: &[Res]) -> Result<Vec<Res>, NoMemory>
     ensures { IfOk result (λ v. v.items ≡ res.Sequence (Ok sequenced) ∷ results.now) }
 {
     let mut list = Vec::new(alloc);
@@ -133,11 +129,7 @@ pub(crate) fn made_reply(
 }
 
 /// The reply to a BIND_CONN_TO_SESSION that binds a connection.
-pub(crate) fn bound_reply(
-    alloc: Global,
-    request: &Request,
-    bound: Bound,
-) -> Result<Reply, NoMemory>
+pub(crate) fn bound_reply(alloc: Global, request: &Request, bound: Bound) -> Result<Reply, NoMemory>
     ensures { IfOk result (λ y. y ≡ bound_reply request.now bound) }
 {
     single_reply(alloc, request, Status::OK, Res::Bind(Ok(bound)))

@@ -7,7 +7,7 @@ ghost use Rattle.n41_runs.specs.Rules.{Allowed, IsNoReply, MayBeTaken, MayBind, 
 ghost use Rattle.n41_legal.specs.Legality.{sizes_of, IsLegality};
 
 use crate::bare::{may_bind, may_end, may_make, may_make_again, may_name, plan_refuses};
-use crate::messages::{carrier, fate, message_at, standing, taken};
+use crate::net::{carrier, fate, message_at, standing, taken};
 use crate::server::is_id;
 use crate::slots::{may_repeat, may_run, slot_refuses};
 use n41_journal::Event;
@@ -198,12 +198,7 @@ fn makes(
 }
 
 /// Whether BIND_CONN_TO_SESSION may bind its connection.
-fn binds(
-    alloc: Global,
-    run: &[Step],
-    number: u64,
-    request: &Request,
-) -> Result<bool, NoMemory>
+fn binds(alloc: Global, run: &[Step], number: u64, request: &Request) -> Result<bool, NoMemory>
     ensures { IfOk result (λ b. Decides b (Pending run.now number request.now × ((request.now.slot ≡ None) × MayBind run.now request.now.plan))) }
 {
     let pending = is_pending(alloc, run, number, request)?;
@@ -267,7 +262,9 @@ pub(crate) fn may_follow(
             made,
         } => makes(alloc, run, *message, request, *made),
         Step::Binds {
-            message, request, ..
+            message,
+            request,
+            ..
         } => binds(alloc, run, *message, request),
         Step::Ends { message, request } => ends(alloc, run, *message, request),
     }

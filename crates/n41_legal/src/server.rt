@@ -2,7 +2,7 @@ ghost use Rattle.std.specs.Prelude.{◌≡◌, IfOk};
 ghost use Rattle.n41_model.specs.Requests.{turn_of};
 ghost use Rattle.n41_runs.specs.Server.{is_at, last, kept, was_made, is_end_of, alive, slots_given, client_in, made_for, is_bind_of, is_bound, is_id, unless_ended, was_named, confirmed, unconfirmed, is_there, next_sequence, last_made};
 
-use crate::messages::carrier;
+use crate::net::carrier;
 use crate::replies::ran_reply;
 use n41_results::{ReplyBody, SessionMade};
 use n41_runs::Step;
@@ -179,7 +179,9 @@ pub(crate) fn is_bound(run: &[Step], session: SessionId, conn: u64) -> bool
         }
         [
             Step::Binds {
-                message, request, ..
+                message,
+                request,
+                ..
             },
             before @ ..,
         ] => {

@@ -1,4 +1,4 @@
-ghost use Rattle.std.specs.Prelude.{◌≡◌, ◌&&◌, ◌||◌, not, nat_le, is_none, IfOk, Some};
+ghost use Rattle.std.specs.Prelude.{◌≡◌, ◌+◌, ◌==◌, ◌&&◌, ◌||◌, not, nat_le, is_none, IfOk, Some};
 ghost use Rattle.std.specs.Bool.{Decides};
 ghost use Rattle.n41_results.specs.declared.replies.ReplyBody.TheVariants as body;
 ghost use Rattle.n41_results.specs.Results.{ok};
@@ -9,7 +9,7 @@ ghost use Rattle.n41_runs.specs.Server.{alive, is_bound, kept, last, slots_given
 ghost use Rattle.n41_runs.specs.Rules.{IsRun, MayRepeat, MayRun, is_bad_slot, is_gone, is_misordered, is_out_of_turn, is_uncached_body, slot_refuses};
 ghost use Rattle.n41_legal.specs.Legality.{sizes_of};
 
-use crate::messages::carrier;
+use crate::net::carrier;
 use crate::replies::{end_status, ran_reply};
 use crate::server::{alive, is_bound, kept, last, slots_given};
 use crate::sizes::{refuses, size_of};
@@ -37,8 +37,7 @@ fn tells_bad_slot(run: &[Step], place: SlotUse, status: Status) -> bool
 fn tells_unbound(run: &[Step], number: u64, place: SlotUse, status: Status) -> bool
     ensures { result ≡ (is_not_bound status && not (is_bound run.now place.sid (carrier (client run.now) number))) }
 {
-    status == Status::CONN_NOT_BOUND_TO_SESSION
-        && !is_bound(run, place.sid, carrier(run, number))
+    status == Status::CONN_NOT_BOUND_TO_SESSION && !is_bound(run, place.sid, carrier(run, number))
 }
 
 /// Whether the turn is neither the last one nor the next.
@@ -52,8 +51,7 @@ fn is_out_of_turn(turn: u32, last: u32) -> bool
 fn tells_misordered(run: &[Step], place: SlotUse, status: Status) -> bool
     ensures { result ≡ (is_misordered status && is_out_of_turn place.turn (last run.now place.sid place.slot)) }
 {
-    status == Status::SEQ_MISORDERED
-        && is_out_of_turn(place.turn, last(run, place.sid, place.slot))
+    status == Status::SEQ_MISORDERED && is_out_of_turn(place.turn, last(run, place.sid, place.slot))
 }
 
 /// Whether SEQUENCE may answer this status to a request with this use of a slot.
@@ -134,6 +132,13 @@ fn is_told(plan: &Plan, end: Status, results: &[Res]) -> bool
     end != Status::OK || has_its_answer(plan, results)
 }
 
+/// Whether results are ones of a new turn, by what is known of them.
+fn is_answer(echoes: bool, fits: bool, uncached: bool, told: bool) -> bool
+    ensures { result ≡ (((echoes && fits) && not uncached) && told) }
+{
+    echoes && fits && !uncached && told
+}
+
 /// Whether the results are ones of a new turn.
 fn is_run(
     alloc: Global,
@@ -149,7 +154,7 @@ fn is_run(
     let fits = is_fit(request, &reply);
     let uncached = is_uncached(end);
     let told = is_told(&request.plan, end, results);
-    Ok(echoes && fits && !uncached && told)
+    Ok(is_answer(echoes, fits, uncached, told))
 }
 
 /// Whether a turn is new: one above the last.
@@ -190,9 +195,7 @@ fn is_uncached_list(slot: Option<SlotUse>, status: Status, results: &[Res]) -> b
     ensures { result ≡ is_uncached_body slot (body.Results status results.now) }
 {
     match results {
-        [Res::Sequence(Err(refusal))] => {
-            is_uncached(*refusal) && is_uncached(status)
-        }
+        [Res::Sequence(Err(refusal))] => { is_uncached(*refusal) && is_uncached(status) }
         [Res::Sequence(Ok(sequenced)), next] => {
             repeats(slot, *sequenced) && is_uncached(next.status()) && is_uncached(status)
         }
@@ -221,12 +224,7 @@ fn is_body(kept: &Option<ReplyBody>, body: &ReplyBody) -> bool
 }
 
 /// Whether this is the reply that is kept for the last turn.
-fn is_kept(
-    alloc: Global,
-    run: &[Step],
-    place: SlotUse,
-    body: &ReplyBody,
-) -> Result<bool, NoMemory>
+fn is_kept(alloc: Global, run: &[Step], place: SlotUse, body: &ReplyBody) -> Result<bool, NoMemory>
     ensures { IfOk result (λ b. Decides b (kept run.now place.sid place.slot ≡ Some body.now)) }
 {
     let kept = kept(alloc, run, place.sid, place.slot)?;
@@ -239,6 +237,20 @@ fn is_uncached_reply(request: &Request, place: SlotUse, reply: &Reply) -> bool
     ensures { result ≡ (not place.cache && is_uncached_body request.now.slot reply.now.body && is_none (shape_of request.now reply.now)) }
 {
     !place.cache && is_uncached_body(request.slot, &reply.body) && is_fit(request, reply)
+}
+
+/// Whether a reply is to a request with the last turn of a slot.
+fn is_last_turn(run: &[Step], request: &Request, place: SlotUse, reply: &Reply) -> bool
+    ensures { result ≡ ((place.turn == last run.now place.sid place.slot) && (reply.now.xid == request.now.xid)) }
+{
+    place.turn == last(run, place.sid, place.slot) && reply.xid == request.xid
+}
+
+/// Whether a reply is one to the last turn again, by what is known of it.
+fn is_repeat(taken_in: bool, again: bool, same: bool, uncached: bool) -> bool
+    ensures { result ≡ ((taken_in && again) && (same || uncached)) }
+{
+    taken_in && again && (same || uncached)
 }
 
 /// Whether a request with this use of a slot may get this reply as the last turn again.
@@ -255,10 +267,7 @@ pub(crate) fn may_repeat(
 {
     let same = is_kept(alloc, run, place, &reply.body)?;
     let taken_in = is_taken_in(sizes, run, request, place);
-    let last_turn = last(run, place.sid, place.slot);
+    let again = is_last_turn(run, request, place, reply);
     let uncached = is_uncached_reply(request, place, reply);
-    Ok(taken_in
-        && place.turn == last_turn
-        && reply.xid == request.xid
-        && (same || uncached))
+    Ok(is_repeat(taken_in, again, same, uncached))
 }

@@ -40,8 +40,7 @@ named_none n js r s e w f c p = ap (λ (x : Option ℕ). last_of js x) (sym (own
 pub named_some : (n : ℕ) (js : List Event) (r : Request) (s d : ℕ) (a : CommandName) → is_on r s ≡ true → Owns n js r (Some d) → a.caller ≡ d → a.number ≡ number js d → OwnerName n js r s (Some a)
 named_some n js r s d a e w g h f c p =
     let i : Some a ≡ last_of js (Some d) = name_is a d (number js d) g h in
-    i ∙ ap (λ (x : Option ℕ). last_of js x) (sym (owner_put n js c p r s (Some d) e f w))
-where
+    i ∙ ap (λ (x : Option ℕ). last_of js x) (sym (owner_put n js c p r s (Some d) e f w)) where
   name_is : (x : CommandName) (y z : ℕ) → x.caller ≡ y → x.number ≡ z → Some x ≡ Some (record { caller = y; number = z })
   name_is x y z u v = cc
 

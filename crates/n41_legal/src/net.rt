@@ -82,13 +82,13 @@ pub(crate) fn standing(run: &[Step]) -> Option<u64>
             Step::Does {
                 event: Event::Dialed { conn },
             },
-            ..,
+            ..
         ] => Some(*conn),
         [
             Step::Does {
                 event: Event::Broke { .. },
             },
-            ..,
+            ..
         ] => None,
         [_, before @ ..] => standing(before),
     }
@@ -124,10 +124,14 @@ fn answer_of(alloc: Global, step: &Step) -> Result<Option<Reply>, NoMemory>
         } => Some(ran_reply(alloc, request, *sequenced, results.as_slice())?),
         Step::Repeats { reply, .. } => Some(reply.clone()?),
         Step::Refuses {
-            request, status, ..
+            request,
+            status,
+            ..
         } => Some(refusal(alloc, request, *status)?),
         Step::Names {
-            request, identity, ..
+            request,
+            identity,
+            ..
         } => Some(named_reply(alloc, request, identity)?),
         Step::Makes { request, made, .. } => Some(made_reply(alloc, request, *made)?),
         Step::Binds { request, bound, .. } => Some(bound_reply(alloc, request, *bound)?),
