@@ -1,4 +1,0 @@
-pub mod Modes
-pub mod Ids
-pub mod Opens
-pub mod Inside
