@@ -232,7 +232,8 @@ try_many() {
     start many "$state/many.script" run "127.0.0.1:$(cat "$state/many.port")"
     [ "$(cat "$state/many.status")" = 0 ] && [ "$(grep -cE "^[0-9]+ c[0-9]+ stat type 2 " "$state/many.out")" -eq 3200 ] &&
         [ "$(cat "$state/many.wire/cuts")" -gt 40 ]
-    report "64 callers through $(cat "$state/many.wire/cuts" 2>/dev/null) cuts" $? \
+    went=$?
+    report "64 callers through $(cat "$state/many.wire/cuts" 2>/dev/null) cuts" "$went" \
         "status $(cat "$state/many.status"), $(wc -l <"$state/many.out") lines, fault '$(cat "$state/many.err")'"
     hush
     unmarred many
@@ -247,7 +248,8 @@ try_changes() {
     start changes "$state/changes.script" run "127.0.0.1:$(cat "$state/changes.port")"
     [ "$(cat "$state/changes.status")" = 0 ] && [ "$(cat "$state/changes.wire/cuts")" -ge 6 ] &&
         [ "$(sed -E 's/(type 2) size .* mode/\1 mode/' "$state/changes.out")" = "$(printf '%s\n' "1 a made" "2 a made" "3 a renamed" "4 a stat type 2 mode 0755" "5 a removed" "6 a refused 2" "7 a made" "8 a made" "9 a stat type 2 mode 0755")" ]
-    report "changes through $(cat "$state/changes.wire/cuts" 2>/dev/null) cuts" $? \
+    went=$?
+    report "changes through $(cat "$state/changes.wire/cuts" 2>/dev/null) cuts" "$went" \
         "status $(cat "$state/changes.status"), printed '$(cat "$state/changes.out")', fault '$(cat "$state/changes.err")'"
     hush
     unmarred changes
@@ -268,7 +270,8 @@ try_list() {
     done >"$state/filled.script"
     start filled "$state/filled.script" run "127.0.0.1:$(cat "$state/filled.port")"
     [ "$(cat "$state/filled.status")" = 0 ] && [ "$(grep -cE "^[0-9]+ c[0-9]+ made$" "$state/filled.out")" -eq 3000 ]
-    report "3,000 directories through $(cat "$state/filled.wire/cuts" 2>/dev/null) cuts" $? \
+    went=$?
+    report "3,000 directories through $(cat "$state/filled.wire/cuts" 2>/dev/null) cuts" "$went" \
         "status $(cat "$state/filled.status"), $(grep -c " made$" "$state/filled.out") made, fault '$(cat "$state/filled.err")'"
     relay listed 4
     printf '%s\n' "a list /many" "a pause 1" "a list /many/n1-1" "a list /none" >"$state/listed.script"
@@ -278,7 +281,8 @@ try_list() {
     sed 's#.*/##' "$state/filled.script" | sort >"$state/filled.names"
     [ "$(cat "$state/listed.status")" = 0 ] && cmp -s "$state/listed.names" "$state/filled.names" &&
         [ "$(tail -n +2 "$state/listed.out")" = "$(printf '%s\n' "2 a paused" "3 a names 0" "4 a refused 2")" ]
-    report "a list of 3,000 names through $(cat "$state/listed.wire/cuts" 2>/dev/null) cuts" $? \
+    went=$?
+    report "a list of 3,000 names through $(cat "$state/listed.wire/cuts" 2>/dev/null) cuts" "$went" \
         "status $(cat "$state/listed.status"), $(wc -l <"$state/listed.names") names, $(tail -n +2 "$state/listed.out" | tr '\n' ';'), fault '$(cat "$state/listed.err")'"
     hush
     unmarred listed
@@ -289,7 +293,8 @@ replayed() {
     start "$1-replayed" "$state/$1.out" replay
     [ "$(cat "$state/$1.status")" = 0 ] && [ "$(cat "$state/$1-replayed.status")" = 0 ] &&
         [ "$(cat "$state/$1-replayed.out")" = "ok $(wc -l <"$state/$1.out")" ]
-    report "the journal of $1, of $(wc -l <"$state/$1.out") events, through $(cat "$state/$1.wire/cuts" 2>/dev/null) cuts" $? \
+    went=$?
+    report "the journal of $1, of $(wc -l <"$state/$1.out") events, through $(cat "$state/$1.wire/cuts" 2>/dev/null) cuts" "$went" \
         "status $(cat "$state/$1.status") and $(cat "$state/$1-replayed.status"), printed '$(cat "$state/$1-replayed.out")', fault '$(cat "$state/$1.err" "$state/$1-replayed.err")'"
 }
 
