@@ -18,7 +18,7 @@ use Rattle.n41_small_world.specs.declared.promises.Kind.TheVariants as kind
 use Rattle.n41_small_world.specs.Judged.{Breaks, Holds, IsGood, IsPromised, rank}
 use Rattle.n41_small_world.specs.Led.{IsLed}
 use Rattle.n41_small_world.specs.Promised.{IsAnswered, IsKept, IsTwice, OrderlyBy, promise_of}
-use Rattle.n41_small_world.proofs.Orderly.{one_out}
+use Rattle.n41_small_world.proofs.OneOut.{one_out}
 
 -- ---- one request out
 

@@ -18,7 +18,7 @@ use Rattle.n41_runs.specs.declared.steps.Step.TheVariants.{Does, Takes, Runs, Re
 use Rattle.n41_runs.specs.Steps.{client}
 use Rattle.n41_small_world.specs.Led.{IsLed, IsLedBy}
 use Rattle.n41_small_world.specs.Promised.{OrderlyBy}
-use Rattle.n41_small_world.proofs.Orderly.{all_lone, lone_next, tail_orderly}
+use Rattle.n41_small_world.proofs.OneOut.{all_lone, lone_next, tail_orderly}
 
 -- ---- the run before the last step
 

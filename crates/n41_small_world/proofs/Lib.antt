@@ -1,6 +1,6 @@
-pub mod Orderly
+pub mod OneOut
 pub mod Leading
 pub mod Names
 pub mod Counting
-pub mod Promises
+pub mod Answered
 pub mod Judging

@@ -3,10 +3,11 @@
 #![tactic(auto)]
 
 mod effects;
-mod judge;
+
 mod judgements;
 mod orderly;
 mod promises;
+mod verdicts;
 
-pub use judge::judge;
+pub use verdicts::judge;
 pub use judgements::{Judgement, Promise};
