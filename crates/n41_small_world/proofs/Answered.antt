@@ -10,6 +10,7 @@ use Rattle.n41_types.specs.declared.commands.Value.{Value}
 use Rattle.n41_types.specs.declared.plans.Class.{Class}
 use Rattle.n41_types.specs.declared.plans.Class.TheVariants as class
 use Rattle.n41_types.specs.declared.plans.Request.{Request}
+use Rattle.n41_types.specs.declared.plans.SlotUse.{SlotUse}
 use Rattle.n41_types.specs.Plans.{class_of}
 use Rattle.n41_view.specs.Causes.{is_changing as is_changing_class}
 use Rattle.n41_journal.specs.declared.events.Event.{Event}
@@ -17,7 +18,7 @@ use Rattle.n41_journal.specs.declared.events.Event.TheVariants.{Began, Put, Took
 use Rattle.n41_results.specs.declared.replies.Reply.{Reply}
 use Rattle.n41_model.specs.Answers.{round_limit}
 use Rattle.n41_model.specs.Replies.{is_final}
-use Rattle.n41_model.specs.Requests.{doubt, first, is_on, made, out, outs, rounds, without}
+use Rattle.n41_model.specs.Requests.{doubt, first, is_on, is_use_of, made, out, outs, rounds, without}
 use Rattle.n41_model.specs.Text.{answer_to}
 use Rattle.n41_check.specs.Rows.{Row, is_changing_out, row_of}
 use Rattle.n41_runs.specs.declared.commands.CommandName.{CommandName}
@@ -29,8 +30,9 @@ use Rattle.n41_runs.specs.Steps.{client}
 use Rattle.n41_small_world.specs.declared.judgements.Promise.{Promise}
 use Rattle.n41_small_world.specs.declared.judgements.Promise.TheVariants as promise
 use Rattle.n41_small_world.specs.Judged.{Holds}
-use Rattle.n41_small_world.specs.Promised.{AnyInDoubt, IsInDoubt, IsKept, is_done_change, is_undone_answer, is_unknown_answer, was_put}
-use Rattle.n41_legal.proofs.Deciding.{and, both, told_of, told_to}
+use Rattle.n41_small_world.specs.Promised.{AnyInDoubt, Doubts, IsInDoubt, IsKept, answered_by, is_done_change, is_undone_answer, is_unknown_answer, put_by, was_put}
+use Rattle.n41_legal.proofs.Deciding.{and, both, one_of, or_left, or_right, told_of, told_to}
+use Rattle.n41_small_world.proofs.Names.{puts_some}
 
 -- ---- in doubt
 
@@ -62,15 +64,15 @@ doubt_is n js s c m w a b o e f g h =
 
 pub never_put : (js : List Event) (s : ℕ) → was_put js s ≡ false → outs js s ≡ []
 never_put [] s e = refl
-never_put (Put c p r ∷ js) s e = put_by (is_on r s) refl e where
-  put_by : (b : Bool) → is_on r s ≡ b → (is_on r s || was_put js s) ≡ false → outs (Put c p r ∷ js) s ≡ []
-  put_by true f g = absurd (true≢false (sym (ap (λ (x : Bool). x || was_put js s) f) ∙ g))
-  put_by false f g = rw f (never_put js s (sym (ap (λ (x : Bool). x || was_put js s) f) ∙ g))
-never_put (Took c p y ∷ js) s e = took_by (is_some (made js y)) (is_final y) refl refl where
-  took_by : (a b : Bool) → is_some (made js y) ≡ a → is_final y ≡ b → outs (Took c p y ∷ js) s ≡ []
-  took_by true b f g = rw f refl
-  took_by false true f g = rw (f, g) (ap (λ (rs : List Request). without rs y.xid) (never_put js s e))
-  took_by false false f g = rw (f, g) (never_put js s e)
+never_put (Put c p r ∷ js) s e = put_by (is_on r s) refl e (never_put js s) where
+  put_by : (b : Bool) → is_on r s ≡ b → (is_on r s || was_put js s) ≡ false → (was_put js s ≡ false → outs js s ≡ []) → outs (Put c p r ∷ js) s ≡ []
+  put_by true f g h = absurd (true≢false (sym (ap (λ (x : Bool). x || was_put js s) f) ∙ g))
+  put_by false f g h = rw f (h (sym (ap (λ (x : Bool). x || was_put js s) f) ∙ g))
+never_put (Took c p y ∷ js) s e = took_by (is_some (made js y)) (is_final y) refl refl (never_put js s e) where
+  took_by : (a b : Bool) → is_some (made js y) ≡ a → is_final y ≡ b → outs js s ≡ [] → outs (Took c p y ∷ js) s ≡ []
+  took_by true b f g h = rw f refl
+  took_by false true f g h = rw (f, g) (ap (λ (rs : List Request). without rs y.xid) h)
+  took_by false false f g h = rw (f, g) h
 never_put (Began c n k m ∷ js) s e = never_put js s e
 never_put (CbTook c p x ∷ js) s e = never_put js s e
 never_put (CbPut c p x ∷ js) s e = never_put js s e
@@ -204,3 +206,82 @@ kept_answer n v w c m x b f None e g h k = λ a s. at_test a s ((c == a.caller) 
       let p = both (c == a.caller) (m == a.number) i in
       subst (λ (z : CommandName). Holds n w (f z)) (name_is b a (sym e ∙ (Decides-eqb c a.caller).0 p.0) (sym g ∙ (Decides-eqb m a.number).0 p.1)) h
   at_test a s false i = k a (subst (λ (t : Option Answer). IsSome t) (let q : answer_to (client (Does (Answered c m x) ∷ v)) a.caller a.number ≡ answer_to (client v) a.caller a.number = rw i refl in q) s)
+
+-- the command that a step answers
+pub record Gives (st : Step) (a : CommandName) : Type 0 where
+  pub answer : Answer
+  pub is_step : st ≡ Does (Answered a.caller a.number answer)
+
+gives_none : (st : Step) → None ≡ answered_by st → (c m : ℕ) (x : Answer) → st ≢ Does (Answered c m x)
+gives_none st e c m x f =
+    let n : CommandName = record { caller = c; number = m } in
+    let z : None ≡ Some n = e ∙ ap answered_by f in
+    absurd (cc)
+
+gives_some : (st : Step) (a : CommandName) → Some a ≡ answered_by st → Gives st a
+gives_some (Does (Answered c m x)) a e =
+    let n : CommandName = record { caller = c; number = m } in
+    let z : n ≡ a = (let y : Some a ≡ Some n = e in cc) in
+    record { answer = x; is_step = ap (λ (b : CommandName). Does (Answered b.caller b.number x)) z }
+gives_some (Does (Put c p q)) r e = absurd (cc)
+gives_some (Does (Took c p y)) r e = absurd (cc)
+gives_some (Does (Began c m k t)) r e = absurd (cc)
+gives_some (Does (CbTook c p x)) r e = absurd (cc)
+gives_some (Does (CbPut c p x)) r e = absurd (cc)
+gives_some (Does (Dialed c)) r e = absurd (cc)
+gives_some (Does DialFailed) r e = absurd (cc)
+gives_some (Does (Broke c x)) r e = absurd (cc)
+gives_some (Does (Ticked m)) r e = absurd (cc)
+gives_some (Does Quit) r e = absurd (cc)
+gives_some (Takes k c p y) r e = absurd (cc)
+gives_some (Runs k q s xs) r e = absurd (cc)
+gives_some (Repeats k q y) r e = absurd (cc)
+gives_some (Refuses k q x) r e = absurd (cc)
+gives_some (Names k q i) r e = absurd (cc)
+gives_some (Makes k q m) r e = absurd (cc)
+gives_some (Binds k q b) r e = absurd (cc)
+gives_some (Ends k q) r e = absurd (cc)
+
+pub kept_aside : (n : ℕ) (v w : List Step) (st : Step) (f : CommandName → Promise) (o : Option Promise) → None ≡ answered_by st → IsKept n v w f o → IsKept n (st ∷ v) w f o
+kept_aside n v w st f o e k = kept_else n v w st f o (gives_none st e) k
+
+pub kept_here : (n : ℕ) (v w : List Step) (st : Step) (a : CommandName) (f : CommandName → Promise) (o : Option Promise) (b : Bool) → Some a ≡ answered_by st → Decides b (Holds n w (f a)) → b ≡ true → IsKept n v w f o → IsKept n (st ∷ v) w f o
+kept_here n v w st a f o b e d h k =
+    let g = gives_some st a e in
+    subst (λ (x : Step). IsKept n (x ∷ v) w f o) (sym g.is_step) (kept_answer n v w a.caller a.number g.answer a f o refl refl (d.0 h) k)
+
+pub broken_here : (n : ℕ) (v w : List Step) (a : CommandName) (f : CommandName → Promise) (x : Promise) (b : Bool) → x ≡ f a → Decides b (Holds n w (f a)) → b ≡ false → IsKept n v w f (Some x)
+broken_here n v w a f x b e d h = (a, e, λ p. true≢false (sym (d.1 (subst (λ (y : Promise). Holds n w y) e p)) ∙ h))
+
+-- ---- slots in doubt
+
+pub doubts_none : (n : ℕ) (w : List Step) (a : CommandName) → Doubts n [] w a false
+doubts_none n w a = record { some = λ e. absurd (true≢false (sym e)); all = λ s e d. e }
+
+pub doubts_aside : (n : ℕ) (v w : List Step) (st : Step) (a : CommandName) (b : Bool) → None ≡ put_by st → Doubts n v w a b → Doubts n (st ∷ v) w a b
+doubts_aside n v w st a b e d = record { some = d.some; all = λ s f. d.all s (sym (put_else v st s (λ c p r g. (let z : None ≡ Some r = e ∙ ap put_by g in absurd (cc)))) ∙ f) }
+
+off_use : (o : Option SlotUse) (s : ℕ) → o ≡ None → is_use_of o s ≡ false
+off_use o s e = rw e refl
+
+-- of a request without a slot
+pub doubts_bare : (n : ℕ) (v w : List Step) (st : Step) (r : Request) (a : CommandName) (b : Bool) → Some r ≡ put_by st → r.slot ≡ None → Doubts n v w a b → Doubts n (st ∷ v) w a b
+doubts_bare n v w st r a b e f d =
+    let p = puts_some st r e in
+    subst (λ (x : Step). Doubts n (x ∷ v) w a b) (sym p.is_step)
+    (record { some = d.some; all = λ s g. d.all s (sym (ap (λ (x : Bool). x || was_put (client v) s) (off_use r.slot s f)) ∙ g) })
+
+on_use : (o : Option SlotUse) (u : SlotUse) (s : ℕ) → o ≡ Some u → is_use_of o s ≡ true → u.slot ≡ s
+on_use o u s e f = (Decides-eqb u.slot s).0 (sym (ap (λ (x : Option SlotUse). is_use_of x s) e) ∙ f)
+
+pub doubts_here : (n : ℕ) (v w : List Step) (st : Step) (r : Request) (u : SlotUse) (a : CommandName) (x b y : Bool) → Some r ≡ put_by st → r.slot ≡ Some u → Decides x (IsInDoubt n (client w) u.slot a.caller a.number) → y ≡ (x || b) → Doubts n v w a b → Doubts n (st ∷ v) w a y
+doubts_here n v w st r u a x b y e f d g k =
+    let p = puts_some st r e in
+    subst (λ (z : Step). Doubts n (z ∷ v) w a y) (sym p.is_step) (record { some = λ h. found (one_of x b (sym g ∙ h)); all = λ s h m. at_slot s m (is_on r s) refl h }) where
+  found : (x ≡ true) ⊎ (b ≡ true) → AnyInDoubt n (client w) a.caller a.number
+  found (inl h) = (u.slot, d.0 h)
+  found (inr h) = k.some h
+
+  at_slot : (s : ℕ) → IsInDoubt n (client w) s a.caller a.number → (t : Bool) → is_on r s ≡ t → (is_on r s || was_put (client v) s) ≡ true → y ≡ true
+  at_slot s m true i h = g ∙ or_left x b (d.1 (subst (λ (z : ℕ). IsInDoubt n (client w) z a.caller a.number) (sym (on_use r.slot u s f i)) m))
+  at_slot s m false i h = g ∙ or_right x b (k.all s (sym (ap (λ (z : Bool). z || was_put (client v) s) i) ∙ h) m)

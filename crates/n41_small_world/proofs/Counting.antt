@@ -1,6 +1,7 @@
 -- The effects of a run, step by step.
 use Rattle.std.proofs.Common.{◌≡◌, ◌≢◌, ◌⊎◌, inl, inr, ℕ, suc, ◌+◌, ◌≤◌, ◌<◌, ◌==◌, Bool, true, false, ◌&&◌, List, [], ◌∷◌, Option, Some, None, if◌then◌else◌, All, IsSome, refl, sym, ◌∙◌, ap, subst, arith, add-one, true≢false}
 use Rattle.std.proofs.lemmas.Bool.Decides.{Decides-eqb}
+use Rattle.std.proofs.lemmas.List.Elements.{All-cons, All-head, All-tail}
 use Rattle.std.specs.Bool.{Decides}
 use Rattle.std.specs.Prelude.{is_some}
 use Rattle.n41_types.specs.declared.plans.Request.{Request}
@@ -12,7 +13,7 @@ use Rattle.n41_runs.specs.declared.steps.Step.{Step}
 use Rattle.n41_runs.specs.declared.steps.Step.TheVariants.{Does, Takes, Runs, Repeats, Refuses, Names, Makes, Binds, Ends}
 use Rattle.n41_runs.specs.Effects.{Effect, acts, command_of, count_of, effects, effects_of, is_named}
 use Rattle.n41_runs.specs.Steps.{client}
-use Rattle.n41_small_world.specs.Promised.{IsTwice, NameTwice}
+use Rattle.n41_small_world.specs.Promised.{IsTwice, NameTwice, Owned}
 use Rattle.n41_legal.proofs.Deciding.{and, both}
 
 -- ---- a request that ran and changed nothing, and steps in which none ran
@@ -31,7 +32,7 @@ idle_step n w (Makes k r m) f = refl
 idle_step n w (Binds k r b) f = refl
 idle_step n w (Ends k r) f = refl
 
-effect : Option CommandName → Request → List Res → Effect
+abbrev effect : Option CommandName → Request → List Res → Effect
 effect a r xs = record { command = a; request = r; results = xs }
 
 acted : (n : ℕ) (w : List Step) (k : ℕ) (r : Request) (q : Sequenced) (xs : List Res) → acts r.plan xs ≡ true → effects n (Runs k r q xs ∷ w) ≡ effect (command_of n (client w) k) r xs ∷ effects n w
@@ -53,9 +54,6 @@ counts_same n w k r q xs a c m x e f g h = h ∙ sym (counted n w k r q xs a c m
 
 -- ---- whose
 
-abbrev pub Owned : ℕ → List Step → Type 0
-Owned n w = All (λ (e : Effect). IsSome e.command) (effects n w)
-
 pub idle_owned : (n : ℕ) (v w : List Step) (b : Bool) → effects n v ≡ effects n w → Decides b (Owned n v) → Decides b (Owned n w)
 idle_owned n v w b e d = subst (λ (es : List Effect). Decides b (All (λ (x : Effect). IsSome x.command) es)) e d
 
@@ -65,10 +63,11 @@ some_test a = (λ e. e, λ e. e)
 pub owned_is : (n : ℕ) (w : List Step) (k : ℕ) (r : Request) (q : Sequenced) (xs : List Res) (a : Option CommandName) (x b : Bool) → acts r.plan xs ≡ true → a ≡ command_of n (client w) k → x ≡ is_some a → Decides b (Owned n w) → Decides (x && b) (Owned n (Runs k r q xs ∷ w))
 owned_is n w k r q xs a x b e f g d =
     let h : effects n (Runs k r q xs ∷ w) ≡ effect a r xs ∷ effects n w = acted n w k r q xs e ∙ ap (λ (z : Option CommandName). effect z r xs ∷ effects n w) (sym f) in
-    subst (λ (es : List Effect). Decides (x && b) (All (λ (z : Effect). IsSome z.command) es)) (sym h)
+    let P = λ (z : Effect). IsSome z.command in
+    subst (λ (es : List Effect). Decides (x && b) (All P es)) (sym h)
     (
-        λ i. (let p = both x b i in ((some_test a).0 (sym g ∙ p.0), d.0 p.1)),
-        λ m. and x b (g ∙ (some_test a).1 m.0) (d.1 m.1)
+        λ i. (let p = both x b i in All-cons P (effect a r xs) (effects n w) ((some_test a).0 (sym g ∙ p.0)) (d.0 p.1)),
+        λ m. and x b (g ∙ (some_test a).1 (All-head P (effect a r xs) (effects n w) m)) (d.1 (All-tail P (effect a r xs) (effects n w) m))
     )
 
 -- ---- twice
@@ -85,7 +84,7 @@ not_twice n w a x e l c m f =
     subst (λ (d : ℕ). effects_of n w c d ≤ 1) p.1 (subst (λ (d : ℕ). effects_of n w d a.number ≤ 1) p.0 (subst (λ (d : ℕ). d ≤ 1) e l))
 
 pub idle_twice : (n : ℕ) (v u w : List Step) (o : Option CommandName) → effects n v ≡ effects n u → IsTwice n v w o → IsTwice n u w o
-idle_twice n v u w None e t c m l = t c m (subst (λ (es : List Effect). 0 < count_of es c m) (sym e) l)
+idle_twice n v u w None e t = λ c m l. t c m (subst (λ (es : List Effect). 0 < count_of es c m) (sym e) l)
 idle_twice n v u w (Some a) e t = t
 
 pub first_fine : (n : ℕ) (v w : List Step) (k : ℕ) (r : Request) (q : Sequenced) (xs : List Res) (a o : Option CommandName) → acts r.plan xs ≡ true → a ≡ command_of n (client v) k → NameTwice n w a None → IsTwice n v w o → IsTwice n (Runs k r q xs ∷ v) w o

@@ -49,19 +49,19 @@ all_unknown n w k a = λ g. k a (some_by (answer_to (client w) a.caller a.number
 
 pub answered_done : (n : ℕ) (w : List Step) (x : Promise) → IsKept n w w (promise_of kind.Done) (Some x) → IsAnswered n w (Some x)
 answered_done n w x k =
-    let e : rank x ≡ 3 = ap rank k.1.0 in
-    (omega (arith, e), (k.1.1, λ a. (λ l. absurd (omega (arith, e, l)), λ l. absurd (omega (arith, e, l)))))
+    let e : rank x ≡ 3 = ap rank k.1 in
+    (omega (arith, e), k.2, λ a. (λ l. absurd (omega (arith, e, l)), λ l. absurd (omega (arith, e, l))))
 
 pub answered_undone : (n : ℕ) (w : List Step) (x : Promise) → IsKept n w w (promise_of kind.Done) None → IsKept n w w (promise_of kind.Undone) (Some x) → IsAnswered n w (Some x)
 answered_undone n w x d k =
-    let e : rank x ≡ 4 = ap rank k.1.0 in
-    (omega (arith, e), (k.1.1, λ a. (λ l. all_done n w d a, λ l. absurd (omega (arith, e, l)))))
+    let e : rank x ≡ 4 = ap rank k.1 in
+    (omega (arith, e), k.2, λ a. (λ l. all_done n w d a, λ l. absurd (omega (arith, e, l))))
 
 pub answered_unknown : (n : ℕ) (w : List Step) (o : Option Promise) → IsKept n w w (promise_of kind.Done) None → IsKept n w w (promise_of kind.Undone) None → IsKept n w w (promise_of kind.Unknown) o → IsAnswered n w o
 answered_unknown n w None d u k = λ a. (all_done n w d a, (all_undone n w u a, all_unknown n w k a))
 answered_unknown n w (Some x) d u k =
-    let e : rank x ≡ 5 = ap rank k.1.0 in
-    (omega (arith, e), (k.1.1, λ a. (λ l. all_done n w d a, λ l. all_undone n w u a)))
+    let e : rank x ≡ 5 = ap rank k.1 in
+    (omega (arith, e), k.2, λ a. (λ l. all_done n w d a, λ l. all_undone n w u a))
 
 -- ---- promises on effects
 
@@ -108,13 +108,13 @@ promised n w None o h t k = each where
   each (promise.Done a) = (k a).0
   each (promise.Undone a) = (k a).1.0
   each (promise.Unknown a) = (k a).1.1
-promised n w (Some x) o h t k = record { before = each; broken = k.1.0 } where
+promised n w (Some x) o h t k = record { before = each; broken = k.1 } where
   each : (y : Promise) → rank y < rank x → Holds n w y
   each promise.OneOut l = one_out (client w) o.orderly
   each promise.Owned l = h
   each (promise.Single a) l = few_all n w t a
-  each (promise.Done a) l = (k.1.1 a).0 l
-  each (promise.Undone a) l = (k.1.1 a).1 l
+  each (promise.Done a) l = (k.2 a).0 l
+  each (promise.Undone a) l = (k.2 a).1 l
   each (promise.Unknown a) l = let m = rank_most x in absurd (omega (arith, l, m))
 
 abbrev name_of : ℕ → ℕ → CommandName

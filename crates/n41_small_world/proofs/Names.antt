@@ -15,7 +15,7 @@ use Rattle.n41_runs.specs.declared.steps.Step.{Step}
 use Rattle.n41_runs.specs.declared.steps.Step.TheVariants.{Does, Takes, Runs, Repeats, Refuses, Names, Makes, Binds, Ends}
 use Rattle.n41_runs.specs.Effects.{command_at, command_of, command_on, last_of}
 use Rattle.n41_runs.specs.Steps.{client, messages}
-use Rattle.n41_small_world.specs.Promised.{NewName, OwnerName}
+use Rattle.n41_small_world.specs.Promised.{NamePut, NewName, OwnerName, put_by}
 
 -- ---- a new request
 
@@ -42,7 +42,7 @@ named_some n js r s d a e w g h f c p =
     let i : Some a ≡ last_of js (Some d) = name_is a d (number js d) g h in
     i ∙ ap (λ (x : Option ℕ). last_of js x) (sym (owner_put n js c p r s (Some d) e f w)) where
   name_is : (x : CommandName) (y z : ℕ) → x.caller ≡ y → x.number ≡ z → Some x ≡ Some (record { caller = y; number = z })
-  name_is x y z u v = cc
+  name_is x y z u v = let p : (let a : CommandName = record { caller = x.caller; number = x.number } in a) ≡ record { caller = y; number = z } = rw (u, v) refl in ap (λ (a : CommandName). Some a) p
 
 pub new_is : (n : ℕ) (js : List Event) (r : Request) (s : ℕ) (o : Option CommandName) (b : Bool) → b ≡ not (knows (outs js s) r.xid) → b ≡ true → OwnerName n js r s o → NewName n js r s (Some o)
 new_is n js r s o b e f w = let g : knows (outs js s) r.xid ≡ false = not_is (knows (outs js s) r.xid) (sym e ∙ f) in (g, w g) where
@@ -128,3 +128,53 @@ of_else n w (Names k r i) s f = refl
 of_else n w (Makes k r m) s f = refl
 of_else n w (Binds k r b) s f = refl
 of_else n w (Ends k r) s f = refl
+
+-- ---- a step that puts a request, or none
+
+puts_none : (st : Step) → put_by st ≡ None → (c p : ℕ) (r : Request) → st ≢ Does (Put c p r)
+puts_none st e c p r f = let z : Some r ≡ None = sym (ap put_by f) ∙ e in absurd (cc)
+
+pub record Puts (st : Step) (r : Request) : Type 0 where
+  pub conn : ℕ
+  pub place : ℕ
+  pub is_step : st ≡ Does (Put conn place r)
+
+pub puts_some : (st : Step) (r : Request) → Some r ≡ put_by st → Puts st r
+puts_some (Does (Put c p q)) r e = let z : r ≡ q = (let y : Some r ≡ Some q = e in cc) in record { conn = c; place = p; is_step = ap (λ (x : Request). Does (Put c p x)) (sym z) }
+puts_some (Does (Took c p y)) r e = absurd (cc)
+puts_some (Does (Began c m k t)) r e = absurd (cc)
+puts_some (Does (CbTook c p x)) r e = absurd (cc)
+puts_some (Does (CbPut c p x)) r e = absurd (cc)
+puts_some (Does (Dialed c)) r e = absurd (cc)
+puts_some (Does DialFailed) r e = absurd (cc)
+puts_some (Does (Broke c x)) r e = absurd (cc)
+puts_some (Does (Ticked m)) r e = absurd (cc)
+puts_some (Does (Answered c m a)) r e = absurd (cc)
+puts_some (Does Quit) r e = absurd (cc)
+puts_some (Takes k c p y) r e = absurd (cc)
+puts_some (Runs k q s xs) r e = absurd (cc)
+puts_some (Repeats k q y) r e = absurd (cc)
+puts_some (Refuses k q x) r e = absurd (cc)
+puts_some (Names k q i) r e = absurd (cc)
+puts_some (Makes k q m) r e = absurd (cc)
+puts_some (Binds k q b) r e = absurd (cc)
+puts_some (Ends k q) r e = absurd (cc)
+
+pub name_none : (n : ℕ) (w : List Step) (st : Step) (s : ℕ) → None ≡ put_by st → NamePut n w st s None
+name_none n w st s e = on_else n w st s (puts_none st (sym e))
+
+pub name_off : (n : ℕ) (w : List Step) (st : Step) (r : Request) (s : ℕ) → Some r ≡ put_by st → is_on r s ≡ false → NamePut n w st s None
+name_off n w st r s e f =
+    let p = puts_some st r e in
+    subst (λ (x : Step). NamePut n w x s None) (sym p.is_step) (on_other n w (Put p.conn p.place r) p.conn p.place r s refl f)
+
+pub name_on : (n : ℕ) (w : List Step) (st : Step) (r : Request) (s : ℕ) (o : Option (Option CommandName)) → Some r ≡ put_by st → is_on r s ≡ true → NewName n (client w) r s o → NamePut n w st s o
+name_on n w st r s None e f h = let p = puts_some st r e in subst (λ (x : Step). NamePut n w x s None) (sym p.is_step) (on_again n w p.conn p.place r s f h)
+name_on n w st r s (Some a) e f h = let p = puts_some st r e in subst (λ (x : Step). NamePut n w x s (Some a)) (sym p.is_step) (on_new n w p.conn p.place r s a f h)
+
+-- the last command on a slot of a run by its parts
+pub named_here : (n : ℕ) (v w : List Step) (st : Step) (s : ℕ) (a : Option CommandName) (o : Option (Option CommandName)) → v ≡ st ∷ w → o ≡ Some a → NamePut n w st s o → a ≡ command_on n (client v) s
+named_here n v w st s a o e f h = subst (λ (x : Option (Option CommandName)). NamePut n w st s x) f h ∙ ap (λ (x : List Step). command_on n (client x) s) (sym e)
+
+pub named_before : (n : ℕ) (v w : List Step) (st : Step) (s : ℕ) (a : Option CommandName) (o : Option (Option CommandName)) → v ≡ st ∷ w → o ≡ None → NamePut n w st s o → a ≡ command_on n (client w) s → a ≡ command_on n (client v) s
+named_before n v w st s a o e f h g = g ∙ (subst (λ (x : Option (Option CommandName)). NamePut n w st s x) f h ∙ ap (λ (x : List Step). command_on n (client x) s) (sym e))

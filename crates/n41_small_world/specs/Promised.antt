@@ -1,5 +1,5 @@
 -- What is found of commands and their effects in a run.
-use Rattle.std.specs.Prelude.{◌≡◌, ℕ, ◌<◌, ◌≤◌, Bool, true, false, not, ◌||◌, List, [], ◌∷◌, Option, Some, None, IsSome}
+use Rattle.std.specs.Prelude.{◌≡◌, ℕ, ◌<◌, ◌≤◌, Bool, true, false, not, ◌||◌, List, [], ◌∷◌, Option, Some, None, All, IsSome}
 use Rattle.n41_types.specs.declared.commands.Answer.{Answer}
 use Rattle.n41_types.specs.declared.commands.Answer.TheVariants as says
 use Rattle.n41_types.specs.declared.commands.Command.{Command}
@@ -7,7 +7,7 @@ use Rattle.n41_types.specs.declared.plans.Class.TheVariants.{Changing}
 use Rattle.n41_types.specs.declared.plans.Request.{Request}
 use Rattle.n41_types.specs.Plans.{class_of}
 use Rattle.n41_journal.specs.declared.events.Event.{Event}
-use Rattle.n41_journal.specs.declared.events.Event.TheVariants.{Put}
+use Rattle.n41_journal.specs.declared.events.Event.TheVariants.{Answered, Put}
 use Rattle.n41_model.specs.Calls.{owner}
 use Rattle.n41_model.specs.OneOut.{Orderly}
 use Rattle.n41_model.specs.Requests.{doubt, is_on, knows, out, outs}
@@ -15,7 +15,8 @@ use Rattle.n41_model.specs.Text.{answer_to}
 use Rattle.n41_check.specs.Rules.{callers}
 use Rattle.n41_runs.specs.declared.commands.CommandName.{CommandName}
 use Rattle.n41_runs.specs.declared.steps.Step.{Step}
-use Rattle.n41_runs.specs.Effects.{command_on, effects_of, is_changing, is_named, last_of}
+use Rattle.n41_runs.specs.declared.steps.Step.TheVariants.{Does}
+use Rattle.n41_runs.specs.Effects.{Effect, command_on, effects, effects_of, is_changing, is_named, last_of}
 use Rattle.n41_runs.specs.Good.{is_undone}
 use Rattle.n41_runs.specs.Steps.{client}
 use Rattle.n41_small_world.specs.declared.judgements.Promise.{Promise}
@@ -37,6 +38,20 @@ OwnerName n js r s o = knows (outs js s) r.xid ≡ false → (c p : ℕ) → o �
 abbrev pub NewName : ℕ → List Event → Request → ℕ → Option (Option CommandName) → Type 0
 NewName n js r s None = knows (outs js s) r.xid ≡ true
 NewName n js r s (Some o) = (knows (outs js s) r.xid ≡ false) × ((c p : ℕ) → o ≡ last_of js (owner n (Put c p r ∷ js) s))
+
+-- the request that a step puts
+abbrev pub put_by : Step → Option Request
+put_by (Does (Put c p r)) = Some r
+put_by st = None
+
+-- the command whose attempt the last new request on a slot is after the step; None where the step does not change it
+abbrev pub NamePut : ℕ → List Step → Step → ℕ → Option (Option CommandName) → Type 0
+NamePut n w st s None = command_on n (client w) s ≡ command_on n (client (st ∷ w)) s
+NamePut n w st s (Some o) = o ≡ command_on n (client (st ∷ w)) s
+
+-- each effect is an attempt of a command
+abbrev pub Owned : ℕ → List Step → Type 0
+Owned n w = All (λ (e : Effect). IsSome e.command) (effects n w)
 
 -- the command did not take effect twice, or this is the one and it did
 abbrev pub NameTwice : ℕ → List Step → Option CommandName → Option CommandName → Type 0
@@ -77,6 +92,16 @@ pub record IsInDoubt (n : ℕ) (js : List Event) (s c m : ℕ) : Type 0 where
 -- some slot is one on which a request of the command is in doubt
 abbrev pub AnyInDoubt : ℕ → List Event → ℕ → ℕ → Type 0
 AnyInDoubt n js c m = (s : ℕ) × IsInDoubt n js s c m
+
+-- whether a request of the command is in doubt on one of the slots on which these steps put a request
+pub record Doubts (n : ℕ) (v w : List Step) (a : CommandName) (b : Bool) : Type 0 where
+  pub some : b ≡ true → AnyInDoubt n (client w) a.caller a.number
+  pub all : (s : ℕ) → was_put (client v) s ≡ true → IsInDoubt n (client w) s a.caller a.number → b ≡ true
+
+-- the command that a step answers
+abbrev pub answered_by : Step → Option CommandName
+answered_by (Does (Answered c m a)) = Some (record { caller = c; number = m })
+answered_by st = None
 
 -- the promise of a kind on a command
 abbrev pub promise_of : Kind → CommandName → Promise

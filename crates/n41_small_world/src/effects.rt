@@ -1,12 +1,12 @@
-ghost use Rattle.std.specs.Prelude.{◌≡◌, ◌≤◌, ◌<◌, not, ℕ, true, All, IsSome, IfOk, List, length, Some};
+ghost use Rattle.std.specs.Prelude.{◌≡◌, ◌≤◌, ◌∷◌, ◌&&◌, not, ℕ, true, IfOk, List, length, option_copied, Some};
 ghost use Rattle.std.specs.Bool.{Decides};
 ghost use Rattle.n41_journal.specs.declared.events.Event.{Event};
 ghost use Rattle.n41_model.specs.Requests.{is_on, knows, outs, slot_number};
 ghost use Rattle.n41_check.specs.Shows.{Shows};
 ghost use Rattle.n41_runs.specs.Steps.{client};
-ghost use Rattle.n41_runs.specs.Effects.{Effect, acts, change_of, command_of, command_on, effects, effects_of, has_done, is_done, is_named};
+ghost use Rattle.n41_runs.specs.Effects.{acts, change_of, command_of, command_on, effects_of, has_done, is_done, is_named};
 ghost use Rattle.n41_runs.specs.Effects.{command_at};
-ghost use Rattle.n41_small_world.specs.Promised.{IsTwice, NameTwice, NewName, OrderlyBy, OwnerName};
+ghost use Rattle.n41_small_world.specs.Promised.{IsTwice, NamePut, NameTwice, NewName, OrderlyBy, Owned, OwnerName, put_by};
 
 use crate::orderly::lead;
 use n41_check::Machine;
@@ -91,6 +91,39 @@ fn name_behind(
     }
 }
 
+/// The request that a step puts.
+pub(crate) fn put_by(step: &Step) -> Option<&Request>
+    ensures { option_copied result ≡ put_by step.now }
+{
+    match step {
+        Step::Does {
+            event: Event::Put { request, .. },
+        } => Some(request),
+        _ => None,
+    }
+}
+
+/// Where a step puts a new request on a slot, the command whose attempt it is.
+fn name_put(
+    alloc: Global,
+    run: &[Step],
+    step: &Step,
+    slot: u32,
+) -> Result<Option<Option<CommandName>>, NoMemory>
+    ensures { IfOk result (λ o. (n : ℕ) → OrderlyBy n run.now → NamePut n run.now step.now slot o) }
+{
+    match put_by(step) {
+        None => Ok(None),
+        Some(request) => {
+            if is_on(request, slot) {
+                name_behind(alloc, run, request, slot)
+            } else {
+                Ok(None)
+            }
+        }
+    }
+}
+
 /// The command whose attempt the last new request on a slot is; None where it is the client's own.
 pub(crate) fn command_on(
     alloc: Global,
@@ -99,24 +132,13 @@ pub(crate) fn command_on(
 ) -> Result<Option<CommandName>, NoMemory>
     ensures { IfOk result (λ o. (n : ℕ) → OrderlyBy n run.now → o ≡ command_on n (client run.now) slot) }
 {
-    match run {
-        [] => Ok(None),
-        [
-            Step::Does {
-                event: Event::Put { request, .. },
-            },
-            before @ ..,
-        ] => {
-            if !is_on(request, slot) {
-                return command_on(alloc, before, slot);
-            }
-            let behind = name_behind(alloc, before, request, slot)?;
-            match behind {
-                Some(name) => Ok(name),
-                None => command_on(alloc, before, slot),
-            }
-        }
-        [_, before @ ..] => command_on(alloc, before, slot),
+    let [step, before @ ..] = run else {
+        return Ok(None);
+    };
+    let named = name_put(alloc, before, step, slot)?;
+    match named {
+        Some(name) => Ok(name),
+        None => command_on(alloc, before, slot),
     }
 }
 
@@ -229,30 +251,48 @@ pub(crate) fn effects_of(alloc: Global, run: &[Step], name: CommandName) -> Resu
     }
 }
 
-/// Whether each effect is an attempt of a command.
-pub(crate) fn is_owned(alloc: Global, run: &[Step]) -> Result<bool, NoMemory>
-    ensures { IfOk result (λ b. (n : ℕ) → OrderlyBy n run.now → Decides b (All (λ (e : Effect). IsSome e.command) (effects n run.now))) }
+/// Whether both hold.
+pub(crate) fn both(first: bool, second: bool) -> bool
+    ensures { result ≡ (first && second) }
 {
-    match run {
-        [] => Ok(true),
-        [
-            Step::Runs {
-                message,
-                request,
-                results,
-                ..
-            },
-            before @ ..,
-        ] => {
-            let others = is_owned(alloc, before)?;
+    first && second
+}
+
+/// Whether each effect is an attempt of a command, where it is known of those before the step.
+fn owned_step(
+    alloc: Global,
+    run: &[Step],
+    step: &Step,
+    others: bool,
+) -> Result<bool, NoMemory>
+    ensures { IfOk result (λ b. (n : ℕ) → OrderlyBy n run.now → Decides others (Owned n run.now) → Decides b (Owned n (step.now ∷ run.now))) }
+{
+    match step {
+        Step::Runs {
+            message,
+            request,
+            results,
+            ..
+        } => {
             if !acts(&request.plan, results.as_slice()) {
                 return Ok(others);
             }
-            let acted = command_of(alloc, before, *message)?;
-            Ok(acted.is_some() && others)
+            let acted = command_of(alloc, run, *message)?;
+            Ok(both(acted.is_some(), others))
         }
-        [_, before @ ..] => is_owned(alloc, before),
+        _ => Ok(others),
     }
+}
+
+/// Whether each effect is an attempt of a command.
+pub(crate) fn is_owned(alloc: Global, run: &[Step]) -> Result<bool, NoMemory>
+    ensures { IfOk result (λ b. (n : ℕ) → OrderlyBy n run.now → Decides b (Owned n run.now)) }
+{
+    let [step, before @ ..] = run else {
+        return Ok(true);
+    };
+    let others = is_owned(alloc, before)?;
+    owned_step(alloc, before, step, others)
 }
 
 /// A command that took effect more than once, if it is one.
@@ -274,6 +314,37 @@ fn name_twice(
     }
 }
 
+/// A command that took effect in these steps and more than once in the run, where it is known of those before the step.
+fn twice_step(
+    alloc: Global,
+    steps: &[Step],
+    step: &Step,
+    run: &[Step],
+    earlier: Option<CommandName>,
+) -> Result<Option<CommandName>, NoMemory>
+    ensures { IfOk result (λ o. (n : ℕ) → OrderlyBy n steps.now → OrderlyBy n run.now → IsTwice n steps.now run.now earlier → IsTwice n (step.now ∷ steps.now) run.now o) }
+{
+    match step {
+        Step::Runs {
+            message,
+            request,
+            results,
+            ..
+        } => {
+            if !acts(&request.plan, results.as_slice()) {
+                return Ok(earlier);
+            }
+            let acted = command_of(alloc, steps, *message)?;
+            let twice = name_twice(alloc, run, acted)?;
+            match twice {
+                Some(name) => Ok(Some(name)),
+                None => Ok(earlier),
+            }
+        }
+        _ => Ok(earlier),
+    }
+}
+
 /// A command that took effect in these steps, and more than once in the run.
 pub(crate) fn first_twice(
     alloc: Global,
@@ -282,27 +353,9 @@ pub(crate) fn first_twice(
 ) -> Result<Option<CommandName>, NoMemory>
     ensures { IfOk result (λ o. (n : ℕ) → OrderlyBy n steps.now → OrderlyBy n run.now → IsTwice n steps.now run.now o) }
 {
-    match steps {
-        [] => Ok(None),
-        [
-            Step::Runs {
-                message,
-                request,
-                results,
-                ..
-            },
-            before @ ..,
-        ] => {
-            if !acts(&request.plan, results.as_slice()) {
-                return first_twice(alloc, before, run);
-            }
-            let acted = command_of(alloc, before, *message)?;
-            let twice = name_twice(alloc, run, acted)?;
-            match twice {
-                Some(name) => Ok(Some(name)),
-                None => first_twice(alloc, before, run),
-            }
-        }
-        [_, before @ ..] => first_twice(alloc, before, run),
-    }
+    let [step, before @ ..] = steps else {
+        return Ok(None);
+    };
+    let earlier = first_twice(alloc, before, run)?;
+    twice_step(alloc, before, step, run, earlier)
 }

@@ -1,4 +1,4 @@
-ghost use Rattle.std.specs.Prelude.{◌≡◌, ◌+◌, ◌<◌, ◌≤◌, ◌==◌, ◌^◌, ◌∷◌, ℕ, true, List, IfOk, option_copied, option_to_list};
+ghost use Rattle.std.specs.Prelude.{◌≡◌, ◌+◌, ◌<◌, ◌≤◌, ◌==◌, ◌^◌, ◌∷◌, ◌&&◌, not, ℕ, true, List, IfOk, option_copied, option_to_list};
 ghost use Rattle.std.specs.Bool.{Decides};
 ghost use Rattle.n41_journal.specs.declared.events.Event.{Event};
 ghost use Rattle.n41_model.specs.OneOut.{IsOrderly, IsOrderlyBare, IsOrderlyOn, Orderly};
@@ -23,12 +23,19 @@ fn is_next(turn: u32, used: u32) -> bool
     u64::from(turn) == u64::from(used) + 1
 }
 
+/// Whether a request goes again as it should: it is the same, and is not awaited.
+fn goes_again(same: bool, waits: bool) -> bool
+    ensures { result ≡ (same && not waits) }
+{
+    same && !waits
+}
+
 /// Whether a request goes on its slot as it should: again the same, which is not awaited, or anew at the next turn.
 fn is_orderly_on(slot: &Slot<'_>, request: &Request, place: SlotUse) -> bool
     ensures { (n : ℕ) (js : List Event) → row_in slot.now ≡ row_of n js place.slot → outs js place.slot ≡ option_to_list (out js place.slot) → Decides result (IsOrderlyOn js place request.now) }
 {
     match slot.out {
-        Some(out) => *request == *out && !slot.waits,
+        Some(out) => goes_again(*request == *out, slot.waits),
         None => is_next(place.turn, slot.used),
     }
 }
@@ -108,7 +115,7 @@ fn is_orderly_bare(run: &[Step], request: &Request) -> bool
 {
     match bare_out(run) {
         None => true,
-        Some(out) => *request == *out && !bare_waits(run),
+        Some(out) => goes_again(*request == *out, bare_waits(run)),
     }
 }
 

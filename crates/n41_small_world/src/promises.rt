@@ -1,4 +1,5 @@
-ghost use Rattle.std.specs.Prelude.{◌≡◌, ◌&&◌, ℕ, IfOk, option_copied, true};
+ghost use Rattle.std.specs.Prelude.{◌≡◌, ◌∷◌, ◌&&◌, ◌||◌, ℕ, List, IfOk, option_copied};
+ghost use Rattle.n41_runs.specs.declared.steps.Step.{Step};
 ghost use Rattle.std.specs.Bool.{Decides};
 ghost use Rattle.n41_model.specs.Text.{answer_to};
 ghost use Rattle.n41_check.specs.Rows.{is_changing_out, row_in};
@@ -7,10 +8,10 @@ ghost use Rattle.n41_runs.specs.Steps.{client};
 ghost use Rattle.n41_runs.specs.Effects.{asked, is_changing};
 ghost use Rattle.n41_runs.specs.Good.{IsUnknown, is_undone};
 ghost use Rattle.n41_small_world.specs.Judged.{Holds};
-ghost use Rattle.n41_small_world.specs.Promised.{AnyInDoubt, IsInDoubt, IsKept, OrderlyBy, was_put, promise_of, is_done_change, is_undone_answer, is_unknown_answer};
+ghost use Rattle.n41_small_world.specs.Promised.{Doubts, IsInDoubt, IsKept, OrderlyBy, answered_by, promise_of, is_done_change, is_undone_answer, is_unknown_answer};
 ghost use Rattle.n41_small_world.specs.declared.judgements.Promise.TheVariants as promise;
 
-use crate::effects::{command_on, effects_of, is_named};
+use crate::effects::{both, command_on, effects_of, is_named, put_by};
 use crate::judgements::Promise;
 use crate::orderly::lead;
 use n41_check::{Machine, Slot};
@@ -136,6 +137,13 @@ fn is_doubted(slot: &Slot<'_>) -> bool
     }
 }
 
+/// Whether one of both holds.
+fn either(first: bool, second: bool) -> bool
+    ensures { result ≡ (first || second) }
+{
+    first || second
+}
+
 /// Whether a changing request of the command is in doubt on a slot.
 fn is_in_doubt(
     alloc: Global,
@@ -150,7 +158,30 @@ fn is_in_doubt(
     let known = machine.slot(slot);
     let doubted = is_doubted(&known);
     let named = is_named(own, name);
-    Ok(doubted && named)
+    Ok(both(doubted, named))
+}
+
+/// Whether one is on any of the slots on which these steps put a request, where it is known of those before the step.
+fn doubt_step(
+    alloc: Global,
+    machine: &Machine<'_>,
+    step: &Step,
+    run: &[Step],
+    name: CommandName,
+    others: bool,
+) -> Result<bool, NoMemory>
+    ensures { IfOk result (λ b. (n : ℕ) (w : List Step) → OrderlyBy n run.now → Shows n (client run.now) machine.now → Doubts n w run.now name others → Doubts n (step.now ∷ w) run.now name b) }
+{
+    let Some(request) = put_by(step) else {
+        return Ok(others);
+    };
+    match request.slot {
+        None => Ok(others),
+        Some(place) => {
+            let here = is_in_doubt(alloc, machine, run, place.slot, name)?;
+            Ok(either(here, others))
+        }
+    }
 }
 
 /// Whether one is on any of the slots on which these steps put a request.
@@ -161,28 +192,13 @@ fn any_in_doubt(
     run: &[Step],
     name: CommandName,
 ) -> Result<bool, NoMemory>
-    ensures some { IfOk result (λ b. (n : ℕ) → OrderlyBy n run.now → Shows n (client run.now) machine.now → b ≡ true → AnyInDoubt n (client run.now) name.caller name.number) }
-    ensures all { IfOk result (λ b. (n : ℕ) → OrderlyBy n run.now → Shows n (client run.now) machine.now → (s : ℕ) → was_put (client steps.now) s ≡ true → IsInDoubt n (client run.now) s name.caller name.number → b ≡ true) }
+    ensures { IfOk result (λ b. (n : ℕ) → OrderlyBy n run.now → Shows n (client run.now) machine.now → Doubts n steps.now run.now name b) }
 {
-    match steps {
-        [] => Ok(false),
-        [
-            Step::Does {
-                event: Event::Put { request, .. },
-            },
-            before @ ..,
-        ] => {
-            let others = any_in_doubt(alloc, machine, before, run, name)?;
-            match request.slot {
-                None => Ok(others),
-                Some(place) => {
-                    let here = is_in_doubt(alloc, machine, run, place.slot, name)?;
-                    Ok(here || others)
-                }
-            }
-        }
-        [_, before @ ..] => any_in_doubt(alloc, machine, before, run, name),
-    }
+    let [step, before @ ..] = steps else {
+        return Ok(false);
+    };
+    let others = any_in_doubt(alloc, machine, before, run, name)?;
+    doubt_step(alloc, machine, step, run, name, others)
 }
 
 /// Whether the command has its cause to be answered Unknown.
@@ -195,7 +211,7 @@ fn is_unknown(alloc: Global, run: &[Step], name: CommandName) -> Result<bool, No
         Some(machine) => {
             let over = machine.is_over();
             let doubted = any_in_doubt(alloc, &machine, run, run, name)?;
-            Ok(doubted && over)
+            Ok(both(doubted, over))
         }
     }
 }
@@ -259,6 +275,42 @@ fn keeps(alloc: Global, run: &[Step], kind: Kind, name: CommandName) -> Result<b
     }
 }
 
+/// The command that a step answers.
+fn answered_by(step: &Step) -> Option<CommandName>
+    ensures { result ≡ answered_by step.now }
+{
+    match step {
+        Step::Does {
+            event: Event::Answered { caller, number, .. },
+        } => Some(CommandName {
+            caller: *caller,
+            number: *number,
+        }),
+        _ => None,
+    }
+}
+
+/// The promise of a kind that does not hold, of a command that was answered in these steps, where it is known of those before the step.
+fn broken_step(
+    alloc: Global,
+    step: &Step,
+    run: &[Step],
+    kind: Kind,
+    earlier: Option<Promise>,
+) -> Result<Option<Promise>, NoMemory>
+    ensures { IfOk result (λ o. (n : ℕ) (w : List Step) → OrderlyBy n run.now → IsKept n w run.now (promise_of kind) earlier → IsKept n (step.now ∷ w) run.now (promise_of kind) o) }
+{
+    let Some(name) = answered_by(step) else {
+        return Ok(earlier);
+    };
+    let kept = keeps(alloc, run, kind, name)?;
+    if kept {
+        Ok(earlier)
+    } else {
+        Ok(Some(kind.of(name)))
+    }
+}
+
 /// The promise of a kind that does not hold, of a command that was answered in these steps.
 pub(crate) fn first_broken(
     alloc: Global,
@@ -268,25 +320,9 @@ pub(crate) fn first_broken(
 ) -> Result<Option<Promise>, NoMemory>
     ensures { IfOk result (λ o. (n : ℕ) → OrderlyBy n run.now → IsKept n steps.now run.now (promise_of kind) o) }
 {
-    match steps {
-        [] => Ok(None),
-        [
-            Step::Does {
-                event: Event::Answered { caller, number, .. },
-            },
-            before @ ..,
-        ] => {
-            let name = CommandName {
-                caller: *caller,
-                number: *number,
-            };
-            let kept = keeps(alloc, run, kind, name)?;
-            if kept {
-                first_broken(alloc, before, run, kind)
-            } else {
-                Ok(Some(kind.of(name)))
-            }
-        }
-        [_, before @ ..] => first_broken(alloc, before, run, kind),
-    }
+    let [step, before @ ..] = steps else {
+        return Ok(None);
+    };
+    let earlier = first_broken(alloc, before, run, kind)?;
+    broken_step(alloc, step, run, kind, earlier)
 }
