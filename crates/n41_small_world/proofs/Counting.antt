@@ -93,3 +93,6 @@ first_fine n v w k r q xs a None e f h t = λ c m l. at_test c m l (is_named a c
   at_test : (c m : ℕ) → 0 < effects_of n (Runs k r q xs ∷ v) c m → (b : Bool) → is_named a c m ≡ b → effects_of n w c m ≤ 1
   at_test c m l true g = h c m g
   at_test c m l false g = let i : effects_of n (Runs k r q xs ∷ v) c m ≡ effects_of n v c m = counted n v k r q xs a c m e f ∙ rw g refl in t c m (subst (λ (d : ℕ). 0 < d) i l)
+
+pub twice_some : (n : ℕ) (w : List Step) (a o : Option CommandName) (x : CommandName) → o ≡ Some x → NameTwice n w a o → 1 < effects_of n w x.caller x.number
+twice_some n w a o x e t = subst (λ (y : Option CommandName). NameTwice n w a y) e t

@@ -11,7 +11,9 @@ use Rattle.n41_check.specs.declared.machine.Machine.{Machine}
 use Rattle.n41_runs.specs.declared.commands.CommandName.{CommandName}
 use Rattle.n41_runs.specs.declared.steps.Step.{Step}
 use Rattle.n41_runs.specs.Effects.{effects_of}
+use Rattle.n41_runs.specs.Rules.{LegalBy, Sizes}
 use Rattle.n41_runs.specs.Steps.{client}
+use Rattle.n41_legal.specs.Legality.{IsLegality}
 use Rattle.n41_small_world.specs.declared.judgements.Promise.{Promise}
 use Rattle.n41_small_world.specs.declared.judgements.Promise.TheVariants as promise
 use Rattle.n41_small_world.specs.declared.promises.Kind.TheVariants as kind
@@ -131,3 +133,17 @@ good n w h = record {
   };
   unknown = λ c m. h (promise.Unknown (name_of c m));
 }
+
+-- ---- where nothing is found
+
+pub kept_nothing : (n : ℕ) (v w : List Step) (f : CommandName → Promise) (o : Option Promise) → ((x : Promise) → o ≢ Some x) → IsKept n v w f o → IsKept n v w f None
+kept_nothing n v w f None e k = k
+kept_nothing n v w f (Some x) e k = absurd (e x refl)
+
+pub twice_nothing : (n : ℕ) (v w : List Step) (o : Option CommandName) → ((x : CommandName) → o ≢ Some x) → IsTwice n v w o → IsTwice n v w None
+twice_nothing n v w None e k = k
+twice_nothing n v w (Some x) e k = absurd (e x refl)
+
+pub legal_nothing : (s : Sizes) (w : List Step) (o : Option ℕ) → ((p : ℕ) → o ≢ Some p) → IsLegality s w o → LegalBy s w
+legal_nothing s w None e l = l
+legal_nothing s w (Some p) e l = absurd (e p refl)

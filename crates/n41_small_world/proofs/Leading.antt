@@ -98,10 +98,34 @@ led_other n w (Makes k r x) m f g l = l
 led_other n w (Binds k r b) m f g l = l
 led_other n w (Ends k r) m f g l = l
 
--- ---- room
+-- ---- the whole run
 
-pub led_tried : (w : List Step) (m : Machine) → IsLed (callers (client w)) w (Some m) → IsTried m
-led_tried w m l = is_tried (callers (client w)) (client w) m l.0
+pub led_empty : (n : ℕ) (w : List Step) (m : Machine) → length w < 1 → ((k : ℕ) → Shows k [] m) → IsLedBy n w true m
+led_empty n [] m l s = (s n, tt)
+led_empty n (st ∷ w) m l s = absurd (omega (arith, l))
 
-pub led_few : (w : List Step) (m : Machine) → IsLed (callers (client w)) w (Some m) → m.count ≤ length w
-led_few w m l = let a = l.0.count in let b = events_few w in omega (arith, a, b)
+abbrev Leads : List Step → Option Machine → Type 0
+Leads w o = (n : ℕ) → callers (client w) ≤ n → IsLed n w o
+
+pub led_none : (n : ℕ) (v w : List Step) (st : Step) (o : Option Machine) → v ≡ st ∷ w → ((m : Machine) → o ≢ Some m) → Leads w o → callers (client v) ≤ n → Orderly (client v) → ⊥
+led_none n v w st (Some m) e f l k p = absurd (f m refl)
+led_none n v w st None e f l k p =
+    l n (few_before w st n (subst (λ (x : List Step). callers (client x) ≤ n) e k)) (orderly_before w st (subst (λ (x : List Step). Orderly (client x)) e p))
+
+pub led_shows : (n : ℕ) (w : List Step) (o : Option Machine) (m : Machine) → o ≡ Some m → IsLed n w o → Shows n (client w) m
+led_shows n w o m e l = (subst (λ (x : Option Machine). IsLed n w x) e l).0
+
+led_least : (w : List Step) (o : Option Machine) (m : Machine) → o ≡ Some m → Leads w o → Shows (callers (client w)) (client w) m
+led_least w o m e l = led_shows (callers (client w)) w o m e (l (callers (client w)) (omega arith))
+
+pub led_tried : (w : List Step) (o : Option Machine) (m : Machine) → o ≡ Some m → Leads w o → IsTried m
+led_tried w o m e l = is_tried (callers (client w)) (client w) m (led_least w o m e l)
+
+pub led_room : (w : List Step) (o : Option Machine) (m : Machine) → o ≡ Some m → Leads w o → m.count ≤ length w
+led_room w o m e l = let a = (led_least w o m e l).count in let b = events_few w in omega (arith, a, b)
+
+pub led_run : (n : ℕ) (v w : List Step) (st : Step) (o : Option Machine) (m z : Machine) (b d : Bool) → v ≡ st ∷ w → o ≡ Some m → b ≡ d → Leads w o → (IsLedBy n w true m → callers (client (st ∷ w)) ≤ n → IsLedBy n (st ∷ w) b z) → callers (client v) ≤ n → IsLedBy n v d z
+led_run n v w st o m z b d e f g l h k =
+    let i = subst (λ (x : List Step). callers (client x) ≤ n) e k in
+    let j = subst (λ (x : Option Machine). IsLed n w x) f (l n (few_before w st n i)) in
+    subst (λ (x : List Step). IsLedBy n x d z) (sym e) (subst (λ (x : Bool). IsLedBy n (st ∷ w) x z) g (h j i))

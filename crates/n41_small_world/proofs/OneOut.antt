@@ -189,3 +189,7 @@ one_out js o = record {
   without_slot = (let m = all_bare js o in some_length m.member (bares js) m.is_member);
   orderly = o;
 }
+
+-- whether a Put leaves the journal orderly
+pub put_decides : (js : List Event) (c p : ℕ) (r : Request) (b : Bool) → Orderly js → Decides b (IsOrderly js r.slot r) → Decides b (Orderly (Put c p r ∷ js))
+put_decides js c p r b o d = (λ h. (o, d.0 h), λ m. d.1 m.1)
