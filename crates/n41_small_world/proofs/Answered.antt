@@ -53,13 +53,12 @@ pub doubt_is : (n : ℕ) (js : List Event) (s c m : ℕ) (w : Row) (a b : Bool) 
 doubt_is n js s c m w a b o e f g h =
     let x : w.out ≡ out js s = ap (λ (v : Row). v.out) e in
     let y : w.doubt ≡ doubt js s = ap (λ (v : Row). v.doubt) e in
-    let z : is_named o c m ≡ is_named (command_on n js s) c m = ap (λ (v : Option CommandName). is_named v c m) f in
-    (
-        λ i. (let p = both a b i in
-        let q = both (is_changing_out w.out) w.doubt (sym g ∙ p.0) in
-        let r = some_out w.out js s x q.0 in
-        record { request = r.0; is_out = r.1.0; own = sym z ∙ (sym h ∙ p.1); changing = r.1.1; broke = sym y ∙ q.1 }),
-        λ d. and a b (g ∙ and (is_changing_out w.out) w.doubt (out_some w.out js s d.request x d.is_out d.changing) (y ∙ d.broke)) (h ∙ (z ∙ d.own))
+    let z : is_named o c m ≡ is_named (command_on n js s) c m = ap (λ (v : Option CommandName). is_named v c m) f in (
+      λ i. (let p = both a b i in
+          let q = both (is_changing_out w.out) w.doubt (sym g ∙ p.0) in
+          let r = some_out w.out js s x q.0 in
+          record { request = r.0; is_out = r.1.0; own = sym z ∙ (sym h ∙ p.1); changing = r.1.1; broke = sym y ∙ q.1 }),
+      λ d. and a b (g ∙ and (is_changing_out w.out) w.doubt (out_some w.out js s d.request x d.is_out d.changing) (y ∙ d.broke)) (h ∙ (z ∙ d.own)),
     )
 
 pub never_put : (js : List Event) (s : ℕ) → was_put js s ≡ false → outs js s ≡ []
@@ -92,10 +91,10 @@ out_put js s r e = at_test (was_put js s) refl where
 
 pub unknown_is : (n : ℕ) (js : List Event) (c m : ℕ) (a b : Bool) → (a ≡ true → AnyInDoubt n js c m) → ((s : ℕ) → was_put js s ≡ true → IsInDoubt n js s c m → a ≡ true) → Decides b (round_limit ≤ rounds js) → Decides (a && b) (IsUnknown n js c m)
 unknown_is n js c m a b f g d = (
-    λ h. (let p = both a b h in
-    let x = f p.0 in
-    record { slot = x.0; request = x.1.request; is_out = x.1.is_out; own = x.1.own; changing = x.1.changing; broke = x.1.broke; ended = d.0 p.1 }),
-    λ u. and a b (g u.slot (out_put js u.slot u.request u.is_out) (record { request = u.request; is_out = u.is_out; own = u.own; changing = u.changing; broke = u.broke })) (d.1 u.ended)
+  λ h. (let p = both a b h in
+      let x = f p.0 in
+      record { slot = x.0; request = x.1.request; is_out = x.1.is_out; own = x.1.own; changing = x.1.changing; broke = x.1.broke; ended = d.0 p.1 }),
+  λ u. and a b (g u.slot (out_put js u.slot u.request u.is_out) (record { request = u.request; is_out = u.is_out; own = u.own; changing = u.changing; broke = u.broke })) (d.1 u.ended),
 )
 
 -- a step that puts nothing
@@ -138,8 +137,8 @@ done_parts o p e = absurd (true≢false (sym e))
 
 pub done_is : (n : ℕ) (w : List Step) (a : CommandName) (b : Bool) (x : ℕ) → x ≡ effects_of n w a.caller a.number → b ≡ is_done_change (asked (client w) a.caller a.number) (answer_to (client w) a.caller a.number) → Decides (not b || (x == 1)) (Holds n w (promise.Done a))
 done_is n w a b x e f = (
-    λ h. (λ k v i j g. sym e ∙ (Decides-eqb x 1).0 (told_of b (x == 1) (f ∙ done_asks (asked (client w) a.caller a.number) (answer_to (client w) a.caller a.number) k v i j g) h)),
-    λ p. told_to b (x == 1) (λ h. (let d = done_parts (asked (client w) a.caller a.number) (answer_to (client w) a.caller a.number) (sym f ∙ h) in (Decides-eqb x 1).1 (e ∙ p d.command d.value d.is_command d.changes d.is_value)))
+  λ h. (λ k v i j g. sym e ∙ (Decides-eqb x 1).0 (told_of b (x == 1) (f ∙ done_asks (asked (client w) a.caller a.number) (answer_to (client w) a.caller a.number) k v i j g) h)),
+  λ p. told_to b (x == 1) (λ h. (let d = done_parts (asked (client w) a.caller a.number) (answer_to (client w) a.caller a.number) (sym f ∙ h) in (Decides-eqb x 1).1 (e ∙ p d.command d.value d.is_command d.changes d.is_value))),
 )
 
 undone_asks : (p : Option Answer) (x : Answer) → p ≡ Some x → is_undone x ≡ true → is_undone_answer p ≡ true
@@ -151,8 +150,8 @@ undone_part (Some x) e = (x, (refl, e))
 
 pub undone_is : (n : ℕ) (w : List Step) (a : CommandName) (b : Bool) (x : ℕ) → x ≡ effects_of n w a.caller a.number → b ≡ is_undone_answer (answer_to (client w) a.caller a.number) → Decides (not b || (x == 0)) (Holds n w (promise.Undone a))
 undone_is n w a b x e f = (
-    λ h. (λ v i j. sym e ∙ (Decides-eqb x 0).0 (told_of b (x == 0) (f ∙ undone_asks (answer_to (client w) a.caller a.number) v i j) h)),
-    λ p. told_to b (x == 0) (λ h. (let d = undone_part (answer_to (client w) a.caller a.number) (sym f ∙ h) in (Decides-eqb x 0).1 (e ∙ p d.0 d.1.0 d.1.1)))
+  λ h. (λ v i j. sym e ∙ (Decides-eqb x 0).0 (told_of b (x == 0) (f ∙ undone_asks (answer_to (client w) a.caller a.number) v i j) h)),
+  λ p. told_to b (x == 0) (λ h. (let d = undone_part (answer_to (client w) a.caller a.number) (sym f ∙ h) in (Decides-eqb x 0).1 (e ∙ p d.0 d.1.0 d.1.1))),
 )
 
 unknown_part : (p : Option Answer) → is_unknown_answer p ≡ true → p ≡ Some says.Unknown
@@ -161,8 +160,8 @@ unknown_part p e = absurd (true≢false (sym e))
 
 pub untold_is : (n : ℕ) (w : List Step) (a : CommandName) (b x : Bool) → Decides x (IsUnknown n (client w) a.caller a.number) → b ≡ is_unknown_answer (answer_to (client w) a.caller a.number) → Decides (not b || x) (Holds n w (promise.Unknown a))
 untold_is n w a b x d f = (
-    λ h. (λ i. d.0 (told_of b x (f ∙ ap is_unknown_answer i) h)),
-    λ p. told_to b x (λ h. d.1 (p (unknown_part (answer_to (client w) a.caller a.number) (sym f ∙ h))))
+  λ h. (λ i. d.0 (told_of b x (f ∙ ap is_unknown_answer i) h)),
+  λ p. told_to b x (λ h. d.1 (p (unknown_part (answer_to (client w) a.caller a.number) (sym f ∙ h)))),
 )
 
 -- ---- all answers
@@ -278,10 +277,10 @@ pub doubts_here : (n : ℕ) (v w : List Step) (st : Step) (r : Request) (u : Slo
 doubts_here n v w st r u a x b y e f d g k =
     let p = puts_some st r e in
     subst (λ (z : Step). Doubts n (z ∷ v) w a y) (sym p.is_step) (record { some = λ h. found (one_of x b (sym g ∙ h)); all = λ s h m. at_slot s m (is_on r s) refl h }) where
-  found : (x ≡ true) ⊎ (b ≡ true) → AnyInDoubt n (client w) a.caller a.number
-  found (inl h) = (u.slot, d.0 h)
-  found (inr h) = k.some h
+      found : (x ≡ true) ⊎ (b ≡ true) → AnyInDoubt n (client w) a.caller a.number
+      found (inl h) = (u.slot, d.0 h)
+      found (inr h) = k.some h
 
-  at_slot : (s : ℕ) → IsInDoubt n (client w) s a.caller a.number → (t : Bool) → is_on r s ≡ t → (is_on r s || was_put (client v) s) ≡ true → y ≡ true
-  at_slot s m true i h = g ∙ or_left x b (d.1 (subst (λ (z : ℕ). IsInDoubt n (client w) z a.caller a.number) (sym (on_use r.slot u s f i)) m))
-  at_slot s m false i h = g ∙ or_right x b (k.all s (sym (ap (λ (z : Bool). z || was_put (client v) s) i) ∙ h) m)
+      at_slot : (s : ℕ) → IsInDoubt n (client w) s a.caller a.number → (t : Bool) → is_on r s ≡ t → (is_on r s || was_put (client v) s) ≡ true → y ≡ true
+      at_slot s m true i h = g ∙ or_left x b (d.1 (subst (λ (z : ℕ). IsInDoubt n (client w) z a.caller a.number) (sym (on_use r.slot u s f i)) m))
+      at_slot s m false i h = g ∙ or_right x b (k.all s (sym (ap (λ (z : Bool). z || was_put (client v) s) i) ∙ h) m)

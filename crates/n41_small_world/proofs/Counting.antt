@@ -64,10 +64,9 @@ pub owned_is : (n : ℕ) (w : List Step) (k : ℕ) (r : Request) (q : Sequenced)
 owned_is n w k r q xs a x b e f g d =
     let h : effects n (Runs k r q xs ∷ w) ≡ effect a r xs ∷ effects n w = acted n w k r q xs e ∙ ap (λ (z : Option CommandName). effect z r xs ∷ effects n w) (sym f) in
     let P = λ (z : Effect). IsSome z.command in
-    subst (λ (es : List Effect). Decides (x && b) (All P es)) (sym h)
-    (
-        λ i. (let p = both x b i in All-cons P (effect a r xs) (effects n w) ((some_test a).0 (sym g ∙ p.0)) (d.0 p.1)),
-        λ m. and x b (g ∙ (some_test a).1 (All-head P (effect a r xs) (effects n w) m)) (d.1 (All-tail P (effect a r xs) (effects n w) m))
+    subst (λ (es : List Effect). Decides (x && b) (All P es)) (sym h) (
+      λ i. (let p = both x b i in All-cons P (effect a r xs) (effects n w) ((some_test a).0 (sym g ∙ p.0)) (d.0 p.1)),
+      λ m. and x b (g ∙ (some_test a).1 (All-head P (effect a r xs) (effects n w) m)) (d.1 (All-tail P (effect a r xs) (effects n w) m)),
     )
 
 -- ---- twice

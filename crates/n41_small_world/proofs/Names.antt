@@ -41,8 +41,8 @@ pub named_some : (n : ℕ) (js : List Event) (r : Request) (s d : ℕ) (a : Comm
 named_some n js r s d a e w g h f c p =
     let i : Some a ≡ last_of js (Some d) = name_is a d (number js d) g h in
     i ∙ ap (λ (x : Option ℕ). last_of js x) (sym (owner_put n js c p r s (Some d) e f w)) where
-  name_is : (x : CommandName) (y z : ℕ) → x.caller ≡ y → x.number ≡ z → Some x ≡ Some (record { caller = y; number = z })
-  name_is x y z u v = let p : (let a : CommandName = record { caller = x.caller; number = x.number } in a) ≡ record { caller = y; number = z } = rw (u, v) refl in ap (λ (a : CommandName). Some a) p
+      name_is : (x : CommandName) (y z : ℕ) → x.caller ≡ y → x.number ≡ z → Some x ≡ Some (record { caller = y; number = z })
+      name_is x y z u v = let p : (let a : CommandName = record { caller = x.caller; number = x.number } in a) ≡ record { caller = y; number = z } = rw (u, v) refl in ap (λ (a : CommandName). Some a) p
 
 pub new_is : (n : ℕ) (js : List Event) (r : Request) (s : ℕ) (o : Option CommandName) (b : Bool) → b ≡ not (knows (outs js s) r.xid) → b ≡ true → OwnerName n js r s o → NewName n js r s (Some o)
 new_is n js r s o b e f w = let g : knows (outs js s) r.xid ≡ false = not_is (knows (outs js s) r.xid) (sym e ∙ f) in (g, w g) where

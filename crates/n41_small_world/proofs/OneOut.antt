@@ -35,30 +35,30 @@ one_is p q e = cc
 -- what goes on a slot that has a request out
 pub on_busy : (js : List Event) (u : SlotUse) (r q : Request) (a w : Bool) → outs js u.slot ≡ q ∷ [] → Decides a (r ≡ q) → w ≡ is_waiting (sent js u.slot) → Decides (a && not w) (IsOrderlyOn js u r)
 on_busy js u r q a w e d f = (
-    λ h. (let p = both a (not w) h in
-    record {
-      same = λ x g. (d.0 p.0 ∙ one_is q x (sym e ∙ g), not_waits (sent js u.slot) (sym f ∙ is_not w p.1));
-      next = λ g. (let z : q ∷ [] ≡ [] = sym e ∙ g in absurd (cc));
-    }),
-    λ m. (let k = m.same q e in and a (not w) (d.1 k.0) (to_not w (f ∙ waits_not (sent js u.slot) k.1)))
+  λ h. (let p = both a (not w) h in
+      record {
+        same = λ x g. (d.0 p.0 ∙ one_is q x (sym e ∙ g), not_waits (sent js u.slot) (sym f ∙ is_not w p.1));
+        next = λ g. (let z : q ∷ [] ≡ [] = sym e ∙ g in absurd (cc));
+      }),
+  λ m. (let k = m.same q e in and a (not w) (d.1 k.0) (to_not w (f ∙ waits_not (sent js u.slot) k.1))),
 )
 
 -- what goes on one that has none
 pub on_free : (js : List Event) (u : SlotUse) (r : Request) (x : ℕ) → outs js u.slot ≡ [] → x ≡ used js u.slot → Decides (u.turn == x + 1) (IsOrderlyOn js u r)
 on_free js u r x e f = (
-    λ h. record {
-      same = λ q g. (let z : [] ≡ q ∷ [] = sym e ∙ g in absurd (cc));
-      next = λ g. (Decides-eqb u.turn (x + 1)).0 h ∙ (add-one x ∙ ap suc f);
-    },
-    λ m. (Decides-eqb u.turn (x + 1)).1 (m.next e ∙ (ap suc (sym f) ∙ sym (add-one x)))
+  λ h. record {
+    same = λ q g. (let z : [] ≡ q ∷ [] = sym e ∙ g in absurd (cc));
+    next = λ g. (Decides-eqb u.turn (x + 1)).0 h ∙ (add-one x ∙ ap suc f);
+  },
+  λ m. (Decides-eqb u.turn (x + 1)).1 (m.next e ∙ (ap suc (sym f) ∙ sym (add-one x))),
 )
 
 -- ---- without a slot
 
 pub bare_busy : (js : List Event) (r q : Request) (a w : Bool) → bares js ≡ q ∷ [] → Decides a (r ≡ q) → w ≡ bare_waits js → Decides (a && not w) (IsOrderlyBare js r)
 bare_busy js r q a w e d f = (
-    λ h. (let p = both a (not w) h in record { same = λ x g. (d.0 p.0 ∙ one_is q x (sym e ∙ g), sym f ∙ is_not w p.1) }),
-    λ m. (let k = m.same q e in and a (not w) (d.1 k.0) (to_not w (f ∙ k.1)))
+  λ h. (let p = both a (not w) h in record { same = λ x g. (d.0 p.0 ∙ one_is q x (sym e ∙ g), sym f ∙ is_not w p.1) }),
+  λ m. (let k = m.same q e in and a (not w) (d.1 k.0) (to_not w (f ∙ k.1))),
 )
 
 pub bare_free : (js : List Event) (r : Request) → bares js ≡ [] → Decides true (IsOrderlyBare js r)

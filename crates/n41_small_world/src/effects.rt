@@ -259,12 +259,7 @@ pub(crate) fn both(first: bool, second: bool) -> bool
 }
 
 /// Whether each effect is an attempt of a command, where it is known of those before the step.
-fn owned_step(
-    alloc: Global,
-    run: &[Step],
-    step: &Step,
-    others: bool,
-) -> Result<bool, NoMemory>
+fn owned_step(alloc: Global, run: &[Step], step: &Step, others: bool) -> Result<bool, NoMemory>
     ensures { IfOk result (λ b. (n : ℕ) → OrderlyBy n run.now → Decides others (Owned n run.now) → Decides b (Owned n (step.now ∷ run.now))) }
 {
     match step {
@@ -307,11 +302,7 @@ fn name_twice(
         return Ok(None);
     };
     let count = effects_of(alloc, run, name)?;
-    if count > 1 {
-        Ok(Some(name))
-    } else {
-        Ok(None)
-    }
+    if count > 1 { Ok(Some(name)) } else { Ok(None) }
 }
 
 /// A command that took effect in these steps and more than once in the run, where it is known of those before the step.

@@ -3,11 +3,10 @@
 #![tactic(auto)]
 
 mod effects;
-
 mod judgements;
 mod orderly;
 mod promises;
 mod verdicts;
 
-pub use verdicts::judge;
 pub use judgements::{Judgement, Promise};
+pub use verdicts::judge;

@@ -103,7 +103,7 @@ fn bare_waits(run: &[Step]) -> bool
             Step::Does {
                 event: Event::Dialed { .. } | Event::Broke { .. },
             },
-            ..,
+            ..
         ] => false,
         [_, before @ ..] => bare_waits(before),
     }
@@ -170,10 +170,7 @@ fn advance<'a>(
 }
 
 /// What is known of the journal of the client in a run; None where a request does not go as it should.
-pub(crate) fn lead<'a>(
-    alloc: Global,
-    run: &'a [Step],
-) -> Result<Option<Machine<'a>>, NoMemory>
+pub(crate) fn lead<'a>(alloc: Global, run: &'a [Step]) -> Result<Option<Machine<'a>>, NoMemory>
     ensures { IfOk result (λ o. (n : ℕ) → callers (client run.now) ≤ n → IsLed n run.now o) }
 {
     let [step, before @ ..] = run else {
@@ -184,9 +181,5 @@ pub(crate) fn lead<'a>(
         return Ok(None);
     };
     let goes = advance(alloc, before, step, &mut machine)?;
-    if goes {
-        Ok(Some(machine))
-    } else {
-        Ok(None)
-    }
+    if goes { Ok(Some(machine)) } else { Ok(None) }
 }

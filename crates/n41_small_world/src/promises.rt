@@ -28,13 +28,12 @@ fn asked(run: &[Step], name: CommandName) -> Option<&Command>
         [] => None,
         [
             Step::Does {
-                event:
-                    Event::Began {
-                        caller,
-                        number,
-                        command,
-                        ..
-                    },
+                event: Event::Began {
+                    caller,
+                    number,
+                    command,
+                    ..
+                },
             },
             before @ ..,
         ] => {
@@ -56,12 +55,11 @@ fn answer_to(run: &[Step], name: CommandName) -> Option<&Answer>
         [] => None,
         [
             Step::Does {
-                event:
-                    Event::Answered {
-                        caller,
-                        number,
-                        answer,
-                    },
+                event: Event::Answered {
+                    caller,
+                    number,
+                    answer,
+                },
             },
             before @ ..,
         ] => {
@@ -95,7 +93,8 @@ fn is_undone(answer: &Answer) -> bool
     ensures { result ≡ is_undone answer.now }
 {
     match answer {
-        Answer::Refused(_) | Answer::StateLost(_) | Answer::Unreachable(_) | Answer::NotOpen => true,
+        Answer::Refused(_) | Answer::StateLost(_) | Answer::Unreachable(_) | Answer::NotOpen =>
+            true,
         _ => false,
     }
 }

@@ -202,12 +202,7 @@ fn created(alloc: Global, after: u64) -> Result<Res, NoMemory> {
 }
 
 /// The results behind SEQUENCE.
-fn add_results(
-    alloc: Global,
-    list: &mut Vec<Res>,
-    asks: Asks,
-    after: u64,
-) -> Result<(), NoMemory> {
+fn add_results(alloc: Global, list: &mut Vec<Res>, asks: Asks, after: u64) -> Result<(), NoMemory> {
     match asks {
         Asks::Complete => list.push(Res::ReclaimComplete(Status::OK))?,
         Asks::Lease => {

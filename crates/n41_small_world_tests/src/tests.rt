@@ -238,7 +238,10 @@ fn a_sequence_makes_one_session(rt: HostRuntime) -> Result<(), NoMemory> {
     ];
     let second = [Act::Serve(2, Asks::Create)];
     assert_eq!(rt; judged(rt.alloc(), &[&twice, &again])?, Judgement::Good);
-    assert_eq!(rt; judged(rt.alloc(), &[&twice, &second])?, Judgement::Illegal(10));
+    assert_eq!(rt;
+        judged(rt.alloc(), &[&twice, &second])?,
+        Judgement::Illegal(10)
+    );
     Ok(())
 }
 
