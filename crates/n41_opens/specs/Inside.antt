@@ -3,7 +3,7 @@ use Rattle.std.specs.Prelude.{◌≡◌, ℕ, ◌+◌, ◌-◌, ◌<◌, ◌≤�
 use Rattle.std.specs.Map.{lookup, keys_of, values_of, remove_entry, set_value}
 use Rattle.std.specs.BTreeMap.{insert_entry}
 use Rattle.std.specs.List.Sorted.{IsStrictlySortedBy}
-use Rattle.n41_seqid.specs.Fronts.{IsNew}
+use Rattle.n41_seqid.specs.Fronts.{is_new}
 use Rattle.n41_types.specs.declared.identities.Stateid.{Stateid}
 use Rattle.n41_types.specs.declared.spans.Mode.{Mode}
 use Rattle.n41_types.specs.declared.spans.Mode.TheVariants.{Read, Write, Both}
@@ -15,7 +15,7 @@ use Rattle.n41_opens.specs.declared.modes.Tally.{Tally}
 use Rattle.n41_opens.specs.declared.records.Record.{Record}
 use Rattle.n41_opens.specs.declared.opens.Opens.TheInside.{Inside}
 use Rattle.n41_opens.specs.Ids.{id_cmp, is_id}
-use Rattle.n41_opens.specs.Opens.{Told, Table, IsChangeOf, untold, heard}
+use Rattle.n41_opens.specs.Opens.{Told, Table, is_change, untold, heard}
 
 -- ---- how many handles a record has in each mode
 
@@ -108,7 +108,7 @@ pub record IsReady (rs : List (RecordId × Record)) (r : RecordId) (c : Record) 
 
 -- a seqid is new to a record, which is ready for it
 pub record Readies (rs : List (RecordId × Record)) (r : RecordId) (s : ℕ) (ss : List (RecordId × Record)) : Type 0 where
-  pub new : IsNew (told_by (lookup (is_id r) rs)).window s
+  pub new : is_new (told_by (lookup (is_id r) rs)).window s ≡ true
   pub ready : (c : Record) × IsReady rs r c ss
 
 -- a record that was told a seqid stands in its place
@@ -123,7 +123,7 @@ pub record Joins (rs : List (RecordId × Record)) (r : RecordId) (s : ℕ) (m : 
 
 -- or as many as before; the records are in order
 pub record Changes (rs : List (RecordId × Record)) (r : RecordId) (s : Stateid) (ss : List (RecordId × Record)) : Type 0 where
-  pub change : IsChangeOf (told_by (lookup (is_id r) rs)) r s
+  pub change : is_change (told_by (lookup (is_id r) rs)) r s ≡ true
   pub heard : (c : Record) × (d : Record) × Hears rs r s.seqid c d ss × (d.tally ≡ c.tally)
   pub ordered : IsStrictlySortedBy id_cmp (keys_of rs)
 
@@ -152,20 +152,25 @@ discarded rs r = discarded_by rs r (union_of (tally_in rs r))
 
 -- a seqid is new to a record that is ready for it, with a number of handles that can grow
 pub record CanJoin (rs : List (RecordId × Record)) (r : RecordId) (s : ℕ) (m : Mode) : Type 0 where
-  pub there : (c : Record) × (lookup (is_id r) rs ≡ Some c) × (IsNew c.front.window s) × (1 ≤ c.front.room) × (amount m c.tally + 1 < 2 ^ 64)
+  pub there : (c : Record) × (lookup (is_id r) rs ≡ Some c) × (is_new c.front.window s ≡ true) × (1 ≤ c.front.room) × (amount m c.tally + 1 < 2 ^ 64)
 
 -- a record is made ready for a seqid, or is told it twice; for want of memory nothing changes
 abbrev pub ReadyGives : List (RecordId × Record) → RecordId → ℕ → Result ⊤ AttachFault → List (RecordId × Record) → Type 0
 ReadyGives rs r s (Ok _) ss = Readies rs r s ss
-ReadyGives rs r s (Err (Seq n)) ss = (IsNew (told_by (lookup (is_id r) rs)).window s → ⊥) × (n ≡ s) × (ss ≡ rs)
+ReadyGives rs r s (Err (Seq n)) ss = (is_new (told_by (lookup (is_id r) rs)).window s ≡ false) × (n ≡ s) × (ss ≡ rs)
 ReadyGives rs r s (Err NoMemory) ss = ss ≡ rs
 
 -- the same of the record alone
 abbrev pub WidenGives : Record → ℕ → Result ⊤ AttachFault → Record → Type 0
-WidenGives c s (Ok _) d = IsNew c.front.window s × (told_in d ≡ told_in c) × (d.tally ≡ c.tally) × (1 ≤ d.front.room)
-WidenGives c s (Err (Seq n)) d = (IsNew c.front.window s → ⊥) × (n ≡ s) × (d ≡ c)
+WidenGives c s (Ok _) d = (is_new c.front.window s ≡ true) × (told_in d ≡ told_in c) × (d.tally ≡ c.tally) × (1 ≤ d.front.room)
+WidenGives c s (Err (Seq n)) d = (is_new c.front.window s ≡ false) × (n ≡ s) × (d ≡ c)
 WidenGives c s (Err NoMemory) d = d ≡ c
 
 abbrev pub HearGives : List (RecordId × Record) → RecordId → Stateid → Bool → List (RecordId × Record) → Type 0
 HearGives rs r s true ss = Changes rs r s ss
-HearGives rs r s false ss = (IsChangeOf (told_by (lookup (is_id r) rs)) r s → ⊥) × (ss ≡ rs)
+HearGives rs r s false ss = (is_change (told_by (lookup (is_id r) rs)) r s ≡ false) × (ss ≡ rs)
+
+-- the same of the record alone
+abbrev pub TellGives : Record → RecordId → Stateid → Bool → Record → Type 0
+TellGives c r s true d = (is_change (told_in c) r s ≡ true) × (told_in d ≡ heard s.seqid (told_in c)) × (d.tally ≡ c.tally)
+TellGives c r s false d = (is_change (told_in c) r s ≡ false) × (d ≡ c)

@@ -1,11 +1,12 @@
 -- Open records: the handles that share each, and which of its changes are told (RFC 8881, sections 8.2.2, 9.7, 18.2, 18.16 and 18.18).
-use Rattle.std.specs.Prelude.{◌≡◌, ◌≢◌, ℕ, suc, Bool, true, false, not, ◌&&◌, ◌||◌, ◌==◌, nat_lt, List, [], ◌∷◌, map, length, filter, Option, None, Some, option_map, unwrap_or, is_some, Result, Ok, Err, if◌then◌else◌, ⊤}
+use Rattle.std.specs.Prelude.{◌≡◌, ℕ, Bool, true, false, not, ◌&&◌, ◌||◌, ◌==◌, nat_lt, List, [], ◌∷◌, map, filter, Option, None, Some, unwrap_or, nat_eq, Result, Ok, Err, if◌then◌else◌, ⊤}
 use Rattle.std.specs.Ordering.{nat_cmp, is_eq}
+use Rattle.std.specs.Cmp.Lexicographic.{pointwise}
 use Rattle.std.specs.Map.{lookup, remove_entry, set_value}
 use Rattle.std.specs.BTreeMap.{insert_entry}
 use Rattle.n41_types.specs.declared.identities.Stateid.{Stateid}
 use Rattle.n41_types.specs.declared.spans.Mode.{Mode}
-use Rattle.n41_seqid.specs.Fronts.{Window, IsNew, added, drained}
+use Rattle.n41_seqid.specs.Fronts.{Window, is_new, added, drained}
 use Rattle.n41_opens.specs.declared.ids.RecordKey.{RecordKey}
 use Rattle.n41_opens.specs.declared.ids.RecordId.{RecordId}
 use Rattle.n41_opens.specs.declared.handles.Open.{Open}
@@ -115,10 +116,6 @@ attached t h r s m = with_handles (seated t.handles h r m) (telling t.records r 
 abbrev pub forgotten : Table → ℕ → Table
 forgotten t h = with_handles (without t.handles h) t.records
 
--- a handle leaves by a downgrade, which was answered with this seqid
-abbrev pub lessened : Table → ℕ → RecordId → ℕ → Table
-lessened t h r s = with_handles (without t.handles h) (telling t.records r (heard s (told_of t.records r)))
-
 abbrev pub moved : RecordId → Open → Open
 moved r o = if is_key r.key o.id.key then record o { id = r } else o
 
@@ -149,6 +146,14 @@ abbrev pub shrink_by : Option Mode → Mode → Stateid → Shrink
 shrink_by None m s = Close s
 shrink_by (Some u) m s = if is_less u (joined u m) then Downgrade u s else Keep
 
+abbrev pub need_at : Table → ℕ → Option Open → Option Mode
+need_at t h None = None
+need_at t h (Some o) = union (others t.handles o.id h)
+
+-- what the other handles of a handle's record need
+abbrev pub need_beside : Table → ℕ → Option Mode
+need_beside t h = need_at t h (open_of t.handles h)
+
 abbrev pub shrink_at : Table → ℕ → Option Open → Option Shrink
 shrink_at t h None = None
 shrink_at t h (Some o) = Some (shrink_by (union (others t.handles o.id h)) o.mode (stateid_in t o.id))
@@ -169,30 +174,41 @@ entry_after (e ∷ es) h = if nat_lt h e.0 then Some e else entry_after es h
 abbrev pub told_row : ℕ × Open → ℕ × RecordKey × Mode
 told_row e = (e.0, e.1.id.key, e.1.mode)
 
--- an open's answer is taken where its seqid is new to its record, or else refused as told twice; for want of memory nothing changes
+-- an open was answered with a seqid: what becomes of the table, and None where the record was told this seqid before, or a newer one
+abbrev pub attach_in : Table → ℕ → RecordId → ℕ → Mode → Option Table
+attach_in t h r s m = if is_new (told_of t.records r).window s then Some (attached t h r s m) else None
+
+-- a stateid is of the record, and its seqid is new to it
+abbrev pub is_change : Told → RecordId → Stateid → Bool
+is_change o r s = pointwise nat_eq s.other r.other && not (s.seqid == 0) && is_new o.window s.seqid
+
+abbrev pub changed_by : Table → Stateid → Option Open → Option Table
+changed_by t s None = None
+changed_by t s (Some o) = if is_change (told_of t.records o.id) o.id s then Some (record t { records = telling t.records o.id (heard s.seqid (told_of t.records o.id)) }) else None
+
+-- an OPEN_DOWNGRADE of a handle was answered with a stateid: what becomes of the table, and None where that is no change of the record
+abbrev pub changed_in : Table → ℕ → Stateid → Option Table
+changed_in t h s = changed_by t s (open_of t.handles h)
+
+abbrev pub gone_by : ℕ → Option Table → Option Table
+gone_by h None = None
+gone_by h (Some t) = Some (forgotten t h)
+
+abbrev pub applied_by : Table → ℕ → Stateid → Option Mode → Option Table
+applied_by t h s None = Some (forgotten t h)
+applied_by t h s (Some u) = gone_by h (changed_in t h s)
+
+abbrev pub applied_at : Table → ℕ → Stateid → Option Open → Option Table
+applied_at t h s None = None
+applied_at t h s (Some o) = applied_by t h s (union (others t.handles o.id h))
+
+-- what a handle's close sent was answered OK, and the handle leaves: a CLOSE where no other handle has the record, whose stateid is not looked
+-- at, or else an OPEN_DOWNGRADE
+abbrev pub applied_in : Table → ℕ → Stateid → Option Table
+applied_in t h s = applied_at t h s (open_of t.handles h)
+
+-- what an open's answer gives; for want of memory nothing changes
 abbrev pub AttachGives : Table → ℕ → RecordId → ℕ → Mode → Result ⊤ AttachFault → Table → Type 0
-AttachGives t h r s m (Ok _) u = IsNew (told_of t.records r).window s × (u ≡ attached t h r s m)
-AttachGives t h r s m (Err (Seq n)) u = (IsNew (told_of t.records r).window s → ⊥) × (n ≡ s) × (u ≡ t)
+AttachGives t h r s m (Ok _) u = attach_in t h r s m ≡ Some u
+AttachGives t h r s m (Err (Seq n)) u = (attach_in t h r s m ≡ None) × (n ≡ s) × (u ≡ t)
 AttachGives t h r s m (Err NoMemory) u = u ≡ t
-
--- the stateid that a downgrade answers is of the record, and its seqid is new to it
-pub record IsChangeOf (o : Told) (r : RecordId) (s : Stateid) : Type 0 where
-  pub other : s.other ≡ r.other
-  pub some : s.seqid ≢ 0
-  pub new : IsNew o.window s.seqid
-
-abbrev pub IsChange : Table → RecordId → Stateid → Type 0
-IsChange t r s = IsChangeOf (told_of t.records r) r s
-
--- what an answer to a CLOSE, where no other handle has the record, or else to an OPEN_DOWNGRADE, does for the handle
-abbrev pub AppliesTo : Table → ℕ → Stateid → Open → Option Mode → Bool → Table → Type 0
-AppliesTo t h s o None b u = (b ≡ true) × (u ≡ forgotten t h)
-AppliesTo t h s o (Some n) true u = IsChange t o.id s × (u ≡ lessened t h o.id s.seqid)
-AppliesTo t h s o (Some n) false u = (IsChange t o.id s → ⊥) × (u ≡ t)
-
-abbrev pub AppliesAt : Table → ℕ → Stateid → Option Open → Bool → Table → Type 0
-AppliesAt t h s None b u = (b ≡ false) × (u ≡ t)
-AppliesAt t h s (Some o) b u = AppliesTo t h s o (union (others t.handles o.id h)) b u
-
-abbrev pub AppliedGives : Table → ℕ → Stateid → Bool → Table → Type 0
-AppliedGives t h s b u = AppliesAt t h s (open_of t.handles h) b u

@@ -36,9 +36,10 @@ impl Clone for RecordId {
     ghost is_clone = { λ x y. y ≡ x };
 
     fn clone(&self) -> Result<RecordId, AllocError> {
+        let other = self.other;
         Ok(RecordId {
             key: self.key.clone()?,
-            other: self.other,
+            other,
         })
     }
 }

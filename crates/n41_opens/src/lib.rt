@@ -7,6 +7,8 @@ mod ids;
 mod modes;
 mod opens;
 mod records;
+#[cfg(test)]
+mod tests;
 
 pub use answers::{AttachFault, Shrink};
 pub use handles::Open;

@@ -1,9 +1,10 @@
 ghost use Rattle.std.specs.Prelude.{◌≡◌, ◌≢◌, ◌+◌, ◌<◌, ◌≤◌, ◌^◌, None, true, false, IfOk, IfErr, OnOk, OnErr, IsSome, IfSome};
-ghost use Rattle.std.specs.Map.{lookup};
-ghost use Rattle.n41_seqid.specs.Fronts.{IsNew};
-ghost use Rattle.n41_opens.specs.Ids.{is_id};
-ghost use Rattle.n41_opens.specs.Opens.{IsChangeOf, untold, heard, told_to, seqid_of};
-ghost use Rattle.n41_opens.specs.Inside.{Readies, Joins, Changes, CanJoin, ReadyGives, WidenGives, HearGives, nothing, amount, fewer, union_of, told_in, told_by, tally_in, left, discarded};
+ghost use Rattle.std.specs.Map.{lookup, keys_of};
+ghost use Rattle.std.specs.List.Sorted.{IsStrictlySortedBy};
+ghost use Rattle.n41_seqid.specs.Fronts.{is_new};
+ghost use Rattle.n41_opens.specs.Ids.{id_cmp, is_id};
+ghost use Rattle.n41_opens.specs.Opens.{is_change, untold, heard, told_to, seqid_of};
+ghost use Rattle.n41_opens.specs.Inside.{Readies, Joins, Changes, CanJoin, ReadyGives, WidenGives, HearGives, TellGives, nothing, amount, fewer, union_of, told_in, told_by, tally_in, left, discarded};
 
 use crate::modes::Tally;
 use crate::{AttachFault, Open, RecordId};
@@ -39,7 +40,7 @@ impl Record {
 
     /// A change is told by its seqid, in the room that was made.
     pub(crate) fn hear(&mut self, seqid: u32)
-        requires new { IsNew self.old.front.window seqid }
+        requires new { is_new self.old.front.window seqid ≡ true }
         requires room { 1 ≤ self.old.front.room }
         ensures told { told_in self.new ≡ heard seqid (told_in self.old) }
         ensures tally { self.new.tally ≡ self.old.tally }
@@ -76,14 +77,14 @@ fn add(alloc: Global, records: &mut Records, id: &RecordId, seqid: u32) -> Resul
 }
 
 /// Makes room for one more seqid in a record.
-fn widen(record: &mut Record, seqid: u32) -> Result<(), AttachFault>
+fn widen(wide: &mut Record, seqid: u32) -> Result<(), AttachFault>
     requires { seqid ≢ 0 }
-    ensures { WidenGives record.old seqid result record.new }
+    ensures { WidenGives wide.old seqid result wide.new }
 {
-    if !record.front.is_new(seqid) {
+    if !wide.front.is_new(seqid) {
         return Err(AttachFault::Seq(seqid));
     }
-    record.front.reserve()?;
+    wide.front.reserve()?;
     Ok(())
 }
 
@@ -116,7 +117,8 @@ pub(crate) fn join(records: &mut Records, id: &RecordId, seqid: u32, mode: Mode)
 
 /// A handle that has a record in this mode leaves it; the record is dropped where it was the last one.
 pub(crate) fn leave(records: &mut Records, id: &RecordId, mode: Mode)
-    ensures { records.new.entries ≡ left records.old.entries id.now mode }
+    ensures ordered { IsStrictlySortedBy id_cmp (keys_of records.old.entries) }
+    ensures left { records.new.entries ≡ left records.old.entries id.now mode }
 {
     let Some(record) = records.get_mut(id) else {
         return;
@@ -140,11 +142,11 @@ pub(crate) fn discard(records: &mut Records, id: &RecordId)
 }
 
 /// What the other handles of an open's record need, taken together.
-pub(crate) fn needs(records: &Records, open: &Open) -> Option<Mode>
-    ensures { result ≡ union_of (fewer open.now.mode (tally_in records.now.entries open.now.id)) }
+pub(crate) fn needs(records: &Records, held: &Open) -> Option<Mode>
+    ensures { result ≡ union_of (fewer held.now.mode (tally_in records.now.entries held.now.id)) }
 {
-    let record = records.get(&open.id)?;
-    record.tally.fewer(open.mode).union()
+    let record = records.get(&held.id)?;
+    record.tally.fewer(held.mode).union()
 }
 
 /// The stateid with which a record is closed or changed.
@@ -155,25 +157,38 @@ pub(crate) fn stateid_in(records: &Records, id: &RecordId) -> Stateid
         Some(record) => record.seqid(),
         None => 1,
     };
-    Stateid {
-        seqid,
-        other: id.other,
-    }
+    let other = id.other;
+    Stateid { seqid, other }
+}
+
+/// Whether a stateid is of the record that has this name, and its seqid is new to it.
+fn is_change(kept: &Record, id: &RecordId, s: Stateid) -> bool
+    ensures { result ≡ is_change (told_in kept.now) id.now s }
+{
+    s.other == id.other && s.seqid != 0 && kept.front.is_new(s.seqid)
 }
 
 /// A change of a record is told by the stateid that it answered; false where that is no change of it.
+fn tell(kept: &mut Record, id: &RecordId, s: Stateid) -> Result<bool, AllocError>
+    ensures ok { IfOk result (λ b. TellGives kept.old id.now s b kept.new) }
+    ensures err { OnErr result (kept.new ≡ kept.old) }
+{
+    if !is_change(kept, id, s) {
+        return Ok(false);
+    }
+    kept.front.reserve()?;
+    kept.hear(s.seqid);
+    Ok(true)
+}
+
+/// The same of the record among the others.
 pub(crate) fn change(records: &mut Records, id: &RecordId, s: Stateid) -> Result<bool, AllocError>
     requires { IsSome (lookup (is_id id.now) records.old.entries) }
     ensures ok { IfOk result (λ b. HearGives records.old.entries id.now s b records.new.entries) }
     ensures err { OnErr result (records.new.entries ≡ records.old.entries) }
 {
-    let Some(record) = records.get_mut(id) else {
-        return Ok(false);
-    };
-    if s.other != id.other || s.seqid == 0 || !record.front.is_new(s.seqid) {
-        return Ok(false);
+    match records.get_mut(id) {
+        Some(kept) => tell(kept, id, s),
+        None => Ok(false),
     }
-    record.front.reserve()?;
-    record.hear(s.seqid);
-    Ok(true)
 }
