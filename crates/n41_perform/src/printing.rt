@@ -2,8 +2,8 @@
 ghost use Rattle.std.specs.Prelude.{◌≡◌, OnOk, IfErr};
 ghost use Rattle.std.specs.Io.KnownBytes.{append_known};
 ghost use Rattle.n41_link.specs.Counts.{Counts};
-ghost use Rattle.n41_model.specs.Answers.{breach_at};
-ghost use Rattle.n41_model.specs.Text.{text as answers_text};
+ghost use Rattle.n41_calls.specs.Answers.{breach_at};
+ghost use Rattle.n41_calls.specs.Text.{text as answers_text};
 ghost use Rattle.n41_report.specs.Text.{script_lines};
 ghost use Rattle.n41_perform.specs.Performs.{PrintFails, fails_to_print};
 

@@ -8,8 +8,8 @@ use Rattle.n41_types.specs.declared.plans.Class.TheVariants.{Bare, Reading, Stat
 use Rattle.n41_types.specs.declared.plans.Request.{Request}
 use Rattle.n41_types.specs.Plans.{class_of}
 use Rattle.n41_journal.specs.declared.events.Event.{Event}
-use Rattle.n41_model.specs.Answers.{HasCause, UnknownCause, UnreachableCause, round_limit}
-use Rattle.n41_model.specs.Calls.{call, given, owner, is_caller}
+use Rattle.n41_calls.specs.Answers.{HasCause, UnknownCause, UnreachableCause, round_limit}
+use Rattle.n41_calls.specs.Calls.{call, given, owner, is_caller}
 use Rattle.n41_model.specs.Requests.{out, doubt, rounds}
 use Rattle.n41_model.specs.Sessions.{slots}
 use Rattle.n41_view.specs.View.{view, held_of, slots_from, seat_of, seats_from}

@@ -5,7 +5,7 @@ use Rattle.n41_types.specs.declared.plans.Plan.{Plan}
 use Rattle.n41_journal.specs.declared.events.Event.{Event}
 use Rattle.n41_model.specs.Requests.{moment}
 use Rattle.n41_model.specs.Sessions.{session}
-use Rattle.n41_model.specs.Calls.{began_at, ledger, chosen, sooner}
+use Rattle.n41_calls.specs.Calls.{began_at, ledger, chosen, sooner}
 use Rattle.n41_view.specs.View.{seat_of, seats_from}
 use Rattle.n41_view.specs.Step.{wants, sooner_seat, chosen_from, caller_in}
 use Rattle.n41_view.specs.declared.tables.Seat.{Seat}

@@ -12,12 +12,12 @@ use Rattle.n41_model.specs.declared.words.Item.TheVariants as item
 use Rattle.n41_model.specs.declared.words.Phase.{Phase}
 use Rattle.n41_model.specs.declared.words.Phase.TheVariants.{Down, Binding, Session, ClientId, Settling, Reclaiming, Completing, Running, Dead}
 use Rattle.n41_model.specs.declared.words.Setup.{Setup}
-use Rattle.n41_model.specs.Answers.{round_limit}
+use Rattle.n41_calls.specs.Answers.{round_limit}
 use Rattle.n41_model.specs.Requests.{standing, moment, rounds, bares, bare, out, used, sent}
 use Rattle.n41_model.specs.Sessions.{session, slots, bound, phase, put_off, passed, free_slot, is_empty, next_xid}
-use Rattle.n41_model.specs.Calls.{plan_next, is_ready}
-use Rattle.n41_model.specs.Due.{due, item_due, only_if, with_plan, on_free, on_free_slot, bare_with, bare_due, goes_again, finishing, is_dead, is_running, is_session, step_plan, phase_plan, own_plan, destroy_plan, any_waits, may_step, may_own, is_open, has_ended}
-use Rattle.n41_model.proofs.Slots.{Seats}
+use Rattle.n41_calls.specs.Calls.{plan_next, is_ready}
+use Rattle.n41_calls.specs.Due.{due, item_due, only_if, with_plan, on_free, on_free_slot, bare_with, bare_due, goes_again, finishing, is_dead, is_running, is_session, step_plan, phase_plan, own_plan, destroy_plan, any_waits, may_step, may_own, is_open, has_ended}
+use Rattle.n41_calls.proofs.Slots.{Seats}
 use Rattle.n41_view.specs.View.{view, facts_of, held_of, slots_from, seats_from}
 use Rattle.n41_view.specs.Step.{held_at}
 use Rattle.n41_view.specs.Due.{finishing_in, any_waiting, is_timely, plan_for, goes_held, goes_slot, begins_seat, on_slot, new_on, new_bare, may_step_in, may_own_in, due_item, due_in, xid_in, has_ended_in}

@@ -10,9 +10,9 @@ use Rattle.n41_model.specs.declared.words.Item.TheVariants as item
 use Rattle.n41_model.specs.declared.words.Setup.{Setup}
 use Rattle.n41_model.specs.Requests.{bares, bare, bare_waits, outs, out, is_on, knows, has_xid}
 use Rattle.n41_model.specs.Sessions.{session, slots, free_slot, is_free, lowest_free, all_outs, outs_from, unused_xid, xid_after, next_xid, last_xid}
-use Rattle.n41_model.specs.Calls.{plan_next}
-use Rattle.n41_model.specs.Due.{due, item_due, with_plan, on_free, on_free_slot, slot_request, bare_with, bare_due, bare_request, step_plan, own_plan, destroy_plan, may_retry, may_step, may_own, may_begin, may_destroy, is_open}
-use Rattle.n41_model.proofs.Tests.{only_if_some, with_plan_some}
+use Rattle.n41_calls.specs.Calls.{plan_next}
+use Rattle.n41_calls.specs.Due.{due, item_due, with_plan, on_free, on_free_slot, slot_request, bare_with, bare_due, bare_request, step_plan, own_plan, destroy_plan, may_retry, may_step, may_own, may_begin, may_destroy, is_open}
+use Rattle.n41_calls.proofs.Tests.{only_if_some, with_plan_some}
 
 -- a new request
 pub record Fresh (js : List Event) (r : Request) : Type 0 where

@@ -3,8 +3,8 @@ use Rattle.std.proofs.Common.{◌≡◌, List, ◌∷◌}
 use Rattle.n41_journal.specs.declared.events.Event.{Event}
 use Rattle.n41_journal.specs.declared.events.Event.TheVariants.{Began, Put, Took, CbTook, CbPut, Dialed, DialFailed, Broke, Ticked, Answered, Quit}
 use Rattle.n41_model.specs.declared.words.Setup.{Setup}
-use Rattle.n41_model.specs.Kept.{May}
-use Rattle.n41_model.proofs.Slots.{Seats, seats}
+use Rattle.n41_calls.specs.Kept.{May}
+use Rattle.n41_calls.proofs.Slots.{Seats, seats}
 use Rattle.n41_view.specs.View.{view}
 use Rattle.n41_view.specs.Step.{step}
 use Rattle.n41_view.specs.Laws.{ViewSteps, DueFromView, EndFromView, CausesFromView, AwaitedFromView, OldFromView, MayFromView}

@@ -6,9 +6,9 @@ use Rattle.n41_types.specs.declared.plans.Request.{Request}
 use Rattle.n41_journal.specs.declared.events.Event.{Event}
 use Rattle.n41_model.specs.Requests.{used, retried, sent, put_at, doubt, bares, bare, outs, out}
 use Rattle.n41_model.specs.Sessions.{slots, all_outs, outs_from}
-use Rattle.n41_model.specs.Calls.{owner}
+use Rattle.n41_calls.specs.Calls.{owner}
 use Rattle.n41_model.specs.declared.words.Sent.{Sent}
-use Rattle.n41_model.proofs.Slots.{Seats}
+use Rattle.n41_calls.proofs.Slots.{Seats}
 use Rattle.n41_view.specs.View.{View, view, held_of, slot_of, slots_from, seat_of, seats_from}
 use Rattle.n41_view.specs.Step.{has, request_in, holds, held_with, alone, held_requests, requests}
 use Rattle.n41_view.specs.Due.{any_held}

@@ -7,8 +7,8 @@ use Rattle.n41_journal.specs.declared.events.Event.{Event}
 use Rattle.n41_journal.specs.declared.events.Event.TheVariants.{Put}
 use Rattle.n41_model.specs.Requests.{outs, out, is_on, is_use_of, slot_number}
 use Rattle.n41_model.specs.Sessions.{slots, phase}
-use Rattle.n41_model.specs.Calls.{Ledger, call, owner, ledger, chosen, put_call, is_caller, in_running, is_new}
-use Rattle.n41_model.proofs.Slots.{Seats}
+use Rattle.n41_calls.specs.Calls.{Ledger, call, owner, ledger, chosen, put_call, is_caller, in_running, is_new}
+use Rattle.n41_calls.proofs.Slots.{Seats}
 use Rattle.n41_view.specs.View.{view, slots_from, held_of}
 use Rattle.n41_view.specs.Step.{has, held_at, is_new_in, new_owner}
 use Rattle.n41_view.proofs.Lists.{one_on, knows_is}

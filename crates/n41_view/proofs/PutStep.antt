@@ -6,10 +6,10 @@ use Rattle.n41_journal.specs.declared.events.Event.{Event}
 use Rattle.n41_journal.specs.declared.events.Event.TheVariants.{Put}
 use Rattle.n41_model.specs.Requests.{moment, used, retried, sent, put_at, doubt, turn_of, bares, bare, outs, out, is_on, is_bare, knows, slot_number}
 use Rattle.n41_model.specs.Sessions.{slots}
-use Rattle.n41_model.specs.Calls.{Call, call, owner, put_call, is_caller, is_new}
+use Rattle.n41_calls.specs.Calls.{Call, call, owner, put_call, is_caller, is_new}
 use Rattle.n41_model.specs.declared.words.Sent.{Sent}
 use Rattle.n41_model.specs.declared.words.Sent.TheVariants.{Waits}
-use Rattle.n41_model.proofs.Slots.{Seats}
+use Rattle.n41_calls.proofs.Slots.{Seats}
 use Rattle.n41_view.specs.View.{view, facts_of, held_of, slot_of, slots_from, seat_of, seat_with, seats_from}
 use Rattle.n41_view.specs.Step.{has, counted, put_facts, put_bare, put_held, put_slot, put_seat, new_owner, step}
 use Rattle.n41_view.proofs.Lists.{one_on, one_bare, knows_is, joined_is}

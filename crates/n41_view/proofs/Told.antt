@@ -8,9 +8,9 @@ use Rattle.n41_journal.specs.declared.events.Event.{Event}
 use Rattle.n41_model.specs.Replies.{verdict_of, bare_verdict_of}
 use Rattle.n41_model.specs.Requests.{request, bare_verdict, verdict, bares, bare, outs, out, is_on, has_xid, retried, sent, put_at, doubt}
 use Rattle.n41_model.specs.Sessions.{slots, plan_of}
-use Rattle.n41_model.specs.Calls.{owner, owner_at, ledger, slot_in}
-use Rattle.n41_model.specs.Kept.{MayTake, IsAwaited}
-use Rattle.n41_model.proofs.Slots.{Seats}
+use Rattle.n41_calls.specs.Calls.{owner, owner_at, ledger, slot_in}
+use Rattle.n41_calls.specs.Kept.{MayTake, IsAwaited}
+use Rattle.n41_calls.proofs.Slots.{Seats}
 use Rattle.n41_view.specs.View.{view, held_of, slots_from}
 use Rattle.n41_view.specs.Step.{has, held_with, Said, said_of, said}
 use Rattle.n41_view.specs.declared.tables.Held.{Held}

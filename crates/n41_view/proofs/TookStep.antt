@@ -12,9 +12,9 @@ use Rattle.n41_model.specs.declared.words.Sent.{Sent}
 use Rattle.n41_model.specs.Replies.{is_final, gives_back, sequence_status}
 use Rattle.n41_model.specs.Requests.{moment, used, retried, sent, put_at, doubt, made, sent_after, bares, bare, outs, out, knows, has_xid, request, verdict, session_in}
 use Rattle.n41_model.specs.Sessions.{slots, phases, took_phase, plan_of, worked}
-use Rattle.n41_model.specs.Calls.{Call, command, call, owner, owner_at, slot_in, ledger, took_call, is_caller}
-use Rattle.n41_model.specs.Kept.{MayTake}
-use Rattle.n41_model.proofs.Slots.{Seats}
+use Rattle.n41_calls.specs.Calls.{Call, command, call, owner, owner_at, slot_in, ledger, took_call, is_caller}
+use Rattle.n41_calls.specs.Kept.{MayTake}
+use Rattle.n41_calls.proofs.Slots.{Seats}
 use Rattle.n41_view.specs.View.{View, view, facts_of, held_of, slot_of, slots_from, seat_of, seat_with, seats_from}
 use Rattle.n41_view.specs.Step.{has, holds, counted, took_facts, took_bare, took_held, took_slot, took_seat, new_slots, slots_made, reply_phase, Said, said, step}
 use Rattle.n41_view.proofs.Lists.{one_on, one_bare, knows_is, without_is}

@@ -1,7 +1,7 @@
 ghost use Rattle.std.specs.Prelude.{◌≡◌, ◌≤◌, length, IfOk, [], nat_eq};
 ghost use Rattle.std.specs.Cmp.Lexicographic.{pointwise, lists_per, lists_equiv, nat_list_eq_equiv};
 ghost use Rattle.std.specs.Cmp.{partial_equiv_from_equiv};
-ghost use Rattle.n41_types.specs.Texts.{gathered};
+ghost use Rattle.n41_texts.specs.Texts.{gathered};
 
 use bytes::Bytes;
 use std::alloc::{AllocError, Global};
@@ -74,7 +74,7 @@ pub struct Gathered {
 
 impl Model for Gathered {
     ghost use Rattle.std.specs.Prelude.{List, ℕ, ◌≤◌, vec_len, vec_capacity};
-    ghost use Rattle.n41_types.specs.Texts.{name_limit};
+    ghost use Rattle.n41_texts.specs.Texts.{name_limit};
 
     ghost Value = { List (List ℕ) };
 

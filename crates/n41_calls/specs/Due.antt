@@ -14,14 +14,19 @@ use Rattle.n41_model.specs.declared.words.Phase.TheVariants.{Down, Binding, Sess
 use Rattle.n41_model.specs.declared.words.Sent.{Sent}
 use Rattle.n41_model.specs.declared.words.Sent.TheVariants.{Never, Waits, Delayed, Unbound}
 use Rattle.n41_model.specs.declared.words.Setup.{Setup}
-use Rattle.n41_model.specs.Answers.{round_limit}
+use Rattle.n41_opens.specs.Opens.{holds_any}
+use Rattle.n41_calls.specs.Answers.{round_limit, breach_at}
 use Rattle.n41_model.specs.Requests.{standing, moment, quit, rounds, bares, bare, outs, out, used, sent, is_waiting, bare_waits}
 use Rattle.n41_model.specs.Sessions.{client, session, slots, bound, completed, phase, put_off, passed, free_slot, highest, is_empty, next_xid}
-use Rattle.n41_model.specs.Calls.{plan_next, owner, is_ready, all_answered}
+use Rattle.n41_calls.specs.Calls.{files, plan_next, owner, is_ready, all_answered}
 
 -- after Quit, once every command is answered, only what ends the session and the client id is due
 abbrev pub finishing : ℕ → List Event → Bool
 finishing n js = quit js && all_answered js n
+
+-- The phase, and after a reply that no server gives which keeps the rules: Dead.
+abbrev pub phase_now : ℕ → List Event → Phase
+phase_now n js = if is_some (breach_at n js) then Dead else phase js
 
 abbrev pub is_dead : Phase → Bool
 is_dead Dead = true
@@ -102,9 +107,12 @@ destroy_in (Some m) k = Some (plan.DestroySession m.sid)
 destroy_in None (Some k) = Some (plan.DestroyClient k.id)
 destroy_in None None = None
 
--- what ends the session, and then the client id
-abbrev pub destroy_plan : List Event → Option Plan
-destroy_plan js = destroy_in (session js) (client js)
+abbrev pub client_free : Bool → Option KnownClient → Option KnownClient
+client_free held k = if held then None else k
+
+-- what ends the session, and then the client id where no open is held
+abbrev pub destroy_plan : ℕ → List Event → Option Plan
+destroy_plan n js = destroy_in (session js) (client_free (holds_any (files n js).opens) (client js))
 
 -- a slot from n on, of so many, has a request that waits for its reply
 abbrev pub waits_from : List Event → ℕ → ℕ → Bool
@@ -162,25 +170,25 @@ item_due u js item.Again = only_if (not (bare_waits js)) (bare js)
 item_due u js (item.Retry n) = only_if (may_retry u js n) (out js n)
 item_due u js item.Step = only_if (may_step u js) (with_plan (step_plan u js) (bare_due u js))
 item_due u js item.Own = only_if (may_own u js) (with_plan (own_plan js) (on_free_slot u js))
-item_due u js (item.Fresh c) = only_if (may_begin u js c) (with_plan (plan_next u.callers js c) (on_free_slot u js))
-item_due u js item.Destroy = only_if (may_destroy u js) (with_plan (destroy_plan js) (bare_due u js))
+item_due u js (item.Fresh c) = only_if (may_begin u js c) (with_plan (plan_next u.uid u.callers js c) (on_free_slot u js))
+item_due u js item.Destroy = only_if (may_destroy u js) (with_plan (destroy_plan u.callers js) (bare_due u js))
 
 -- the standing connection carries requests: after a breach, and once so many rounds had no reply, the run has ended for good
-abbrev pub is_open : List Event → Bool
-is_open js = is_some (standing js) && not (is_dead (phase js)) && nat_lt (rounds js) round_limit
+abbrev pub is_open : ℕ → List Event → Bool
+is_open n js = is_some (standing js) && not (is_dead (phase_now n js)) && nat_lt (rounds js) round_limit
 
 -- The request of this kind that is due on the standing connection: none where the run has ended, and none where no connection stands.
 abbrev pub due : Setup → List Event → Item → Option Request
-due u js i = only_if (is_open js) (item_due u js i)
+due u js i = only_if (is_open u.callers js) (item_due u js i)
 
 -- nothing is due
 abbrev pub NothingDue : Setup → List Event → Type 0
 NothingDue u js = (i : Item) → due u js i ≡ None
 
 -- nothing is left to be put once all is answered
-abbrev pub is_over : List Event → Bool
-is_over js = is_none (standing js) || (is_empty (bares js) && is_none (destroy_plan js))
+abbrev pub is_over : ℕ → List Event → Bool
+is_over n js = is_none (standing js) || (is_empty (bares js) && is_none (destroy_plan n js))
 
 -- The run has ended: a reply broke the rules, or sixteen rounds in a row had no reply, or after Quit all is answered and given up.
 abbrev pub has_ended : ℕ → List Event → Bool
-has_ended n js = is_dead (phase js) || nat_le round_limit (rounds js) || (finishing n js && is_over js)
+has_ended n js = is_dead (phase_now n js) || nat_le round_limit (rounds js) || (finishing n js && is_over n js)

@@ -12,14 +12,14 @@ use Rattle.n41_model.specs.declared.words.Item.{Item}
 use Rattle.n41_model.specs.declared.words.Item.TheVariants as item
 use Rattle.n41_model.specs.declared.words.Setup.{Setup}
 use Rattle.n41_model.specs.Requests.{bares, outs, joined, without, is_on, is_bare, knows, first, made}
-use Rattle.n41_model.specs.Kept.{Kept, May, MayPut}
-use Rattle.n41_model.specs.OneOut.{OneOut, Orderly, KeepsOneOut, IsOrderly, IsOrderlyOn, IsOrderlyBare}
+use Rattle.n41_calls.specs.Kept.{Kept, May, MayPut}
+use Rattle.n41_calls.specs.OneOut.{OneOut, Orderly, KeepsOneOut, IsOrderly, IsOrderlyOn, IsOrderlyBare}
 use Rattle.n41_model.specs.Requests.{is_use_of, is_bare_use, has_xid, out, bare, bare_waits, sent, used}
 use Rattle.n41_model.specs.declared.words.Sent.{Sent}
 use Rattle.n41_model.specs.declared.words.Sent.TheVariants.{Waits}
-use Rattle.n41_model.specs.Due.{goes_again}
+use Rattle.n41_calls.specs.Due.{goes_again}
 use Rattle.n41_model.specs.Requests.{moment}
-use Rattle.n41_model.proofs.Puts.{PutIs, AgainBare, AgainOn, NewBare, NewOn, put_is}
+use Rattle.n41_calls.proofs.Puts.{PutIs, AgainBare, AgainOn, NewBare, NewOn, put_is}
 use Rattle.n41_results.specs.declared.replies.ReplyBody.{ReplyBody}
 use Rattle.n41_model.specs.Replies.{is_final}
 use Rattle.std.specs.Prelude.{is_some}

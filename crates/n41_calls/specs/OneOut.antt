@@ -7,7 +7,7 @@ use Rattle.n41_journal.specs.declared.events.Event.TheVariants.{Put}
 use Rattle.n41_model.specs.declared.words.Sent.TheVariants.{Waits}
 use Rattle.n41_model.specs.declared.words.Setup.{Setup}
 use Rattle.n41_model.specs.Requests.{bares, bare_waits, outs, used, sent, turn_of}
-use Rattle.n41_model.specs.Kept.{Kept}
+use Rattle.n41_calls.specs.Kept.{Kept}
 
 -- What goes on a slot that has a request out is that same request, which is not awaited on this connection;
 -- anything else has the turn one above the last that was used.

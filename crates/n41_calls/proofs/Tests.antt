@@ -7,7 +7,7 @@ use Rattle.n41_types.specs.declared.plans.Request.{Request}
 use Rattle.n41_journal.specs.declared.events.Event.{Event}
 use Rattle.n41_model.specs.Requests.{knows, has_xid, joined, without, first, outs, used, bares, bare, out}
 use Rattle.n41_model.specs.Sessions.{is_empty, is_free, lowest_free, free_slot, slots, target}
-use Rattle.n41_model.specs.Due.{only_if, with_plan}
+use Rattle.n41_calls.specs.Due.{only_if, with_plan}
 
 pub and_true : (a b : Bool) → (a && b) ≡ true → (a ≡ true) × (b ≡ true)
 and_true true b e = (refl, e)

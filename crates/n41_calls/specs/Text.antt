@@ -9,7 +9,7 @@ use Rattle.n41_types.specs.declared.commands.Value.{Value}
 use Rattle.n41_types.specs.declared.commands.Value.TheVariants as value
 use Rattle.n41_journal.specs.declared.events.Event.{Event}
 use Rattle.n41_journal.specs.declared.events.Event.TheVariants.{Answered}
-use Rattle.n41_model.specs.Answers.{breach_at}
+use Rattle.n41_calls.specs.Answers.{breach_at}
 
 -- bytes in lower hexadecimal, a dash for none
 abbrev pub hex_or_dash : List ℕ → List ℕ
@@ -82,9 +82,9 @@ abbrev pub unanswered_text : Option ℕ → List ℕ
 unanswered_text None = codes "unreachable"
 unanswered_text (Some p) = codes "breach " ++ decimal p
 
-abbrev pub outcome_text : Option Answer → List Event → List ℕ
-outcome_text (Some a) js = answer_text a
-outcome_text None js = unanswered_text (breach_at js)
+abbrev pub outcome_text : Option Answer → ℕ → List Event → List ℕ
+outcome_text (Some a) n js = answer_text a
+outcome_text None n js = unanswered_text (breach_at n js)
 
 -- a command of a script: its caller's name, its caller, and its number among that caller's commands
 pub record Line : Type 0 where
@@ -92,14 +92,14 @@ pub record Line : Type 0 where
   pub caller : ℕ
   pub number : ℕ
 
-abbrev pub line_text : List Event → ℕ → Line → List ℕ
-line_text js k l = decimal k ++ codes " " ++ l.name ++ codes " " ++ outcome_text (answer_to js l.caller l.number) js ++ codes "\n"
+abbrev pub line_text : ℕ → List Event → ℕ → Line → List ℕ
+line_text n js k l = decimal k ++ codes " " ++ l.name ++ codes " " ++ outcome_text (answer_to js l.caller l.number) n js ++ codes "\n"
 
-abbrev pub lines_from : List Event → ℕ → List Line → List ℕ
-lines_from js k [] = []
-lines_from js k (l ∷ ls) = line_text js k l ++ lines_from js (suc k) ls
+abbrev pub lines_from : ℕ → List Event → ℕ → List Line → List ℕ
+lines_from n js k [] = []
+lines_from n js k (l ∷ ls) = line_text n js k l ++ lines_from n js (suc k) ls
 
 -- One line for each command of a script, in its order: its number from 1, its caller, and the answer that the journal has for it. One
--- without an answer was met by the first breach, or by no server at all.
-abbrev pub text : List Event → List Line → List ℕ
-text js ls = lines_from js 1 ls
+-- without an answer was met by the first breach, or by no server at all. There are so many callers.
+abbrev pub text : ℕ → List Event → List Line → List ℕ
+text n js ls = lines_from n js 1 ls

@@ -1,7 +1,7 @@
 use Rattle.std.proofs.Common.{arith, ◌≡◌, ◌++◌, ◌∙◌, ◌+◌, ◌-◌, ◌≤◌, ℕ, List, length, take, ap, sym, subst}
 use Rattle.std.proofs.Math.Seq.{take-append-add}
-use Rattle.n41_types.specs.Texts.{name_limit, gathered}
-use Rattle.n41_types.proofs.texts.Gathered.gather.Goals as goal
+use Rattle.n41_texts.specs.Texts.{name_limit, gathered}
+use Rattle.n41_texts.proofs.texts.Gathered.gather.Goals as goal
 
 -- what is taken past the first list
 past : (xs ys : List (List ℕ)) (m : ℕ) → m ≡ length xs + (m - length xs) → take m (xs ++ ys) ≡ xs ++ take (m - length xs) ys

@@ -13,9 +13,10 @@ use Rattle.n41_model.specs.declared.words.Item.{Item}
 use Rattle.n41_model.specs.declared.words.Sent.TheVariants.{Waits}
 use Rattle.n41_model.specs.declared.words.Setup.{Setup}
 use Rattle.n41_model.specs.Requests.{standing, dials, puts, takes, moment, quit, bare, bare_waits, bare_put_at, out, sent, put_at}
-use Rattle.n41_model.specs.Calls.{command, number, is_built}
-use Rattle.n41_model.specs.Answers.{HasCause}
-use Rattle.n41_model.specs.Due.{due}
+use Rattle.n41_calls.specs.Walks.{is_built}
+use Rattle.n41_calls.specs.Calls.{command, number}
+use Rattle.n41_calls.specs.Answers.{HasCause}
+use Rattle.n41_calls.specs.Due.{due}
 
 -- a caller without an unanswered command begins its next one, at the last moment; only commands that are built begin
 pub record MayBegin (u : Setup) (js : List Event) (c n : ℕ) (k : Command) (m : ℕ) : Type 0 where
