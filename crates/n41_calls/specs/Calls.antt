@@ -28,7 +28,7 @@ use Rattle.n41_model.specs.Requests.{request, outs, out, begun, knows, is_on, mo
 use Rattle.n41_model.specs.Sessions.{phase, passed, plan_of, session, sessions, slots}
 use Rattle.n41_calls.specs.Walks.{Seen, Sight, label_of, new_label, way_of, walked, next_plan, is_plan, is_keep, owner_text}
 use Rattle.n41_calls.specs.Values.{answer_in, reached_in, listed_after, listing_in, is_again, is_close, is_outdated}
-use Rattle.n41_calls.specs.Files.{Files, no_files, seen_at, files_after, files_or, marked_at, forgotten_at}
+use Rattle.n41_calls.specs.Files.{Files, no_files, seen_at, is_alone, files_after, files_or, marked_at, forgotten_at}
 
 -- the command of a caller that is unanswered
 abbrev pub command : List Event → ℕ → Option Command
@@ -121,16 +121,24 @@ abbrev pub way_after : ℕ → Stale → Option Command → Plan → Option Verd
 way_after h t c p (Some (v.Ran s)) y w = if is_ok s then step_of h c p y w else if is_outdated c s then record w { stale = Some t } else w
 way_after h t c p v y w = w
 
--- A final reply to the request of a call that is out, at this moment; one to a request of the caller's command before changes nothing.
-abbrev pub took_call : ℕ → ℕ → Stale → Option Command → Plan → Option Verdict → Reply → Call → Call
-took_call m h t c p w y k =
+-- what a call knows at a reply: the moment, the number of the next handle, what it goes by if its stateid is outdated, and whether no other
+-- handle has the record of its own
+pub record Hour : Type 0 where
+  pub moment : ℕ
+  pub handle : ℕ
+  pub stale : Stale
+  pub alone : Bool
+
+-- A final reply to the request of a call that is out; one to a request of the caller's command before changes nothing.
+abbrev pub took_call : Hour → Option Command → Plan → Option Verdict → Reply → Call → Call
+took_call t c p w y k =
     if is_final y && k.busy
     then record {
       busy = false;
-      since = if is_put_off_by w k.attempts then Some m else None;
+      since = if is_put_off_by w k.attempts then Some t.moment else None;
       attempts = attempts_after w k.attempts;
-      earned = answer_in c k.way.listed p w k.attempts y;
-      way = way_after h t c p w y k.way;
+      earned = answer_in c t.alone k.way.listed p w k.attempts y;
+      way = way_after t.handle t.stale c p w y k.way;
       labels = k.labels;
     }
     else k
@@ -244,9 +252,12 @@ files_told js y None l = Some l.files
 files_told js y (Some c) l =
     if (l.calls c).busy then files_after (command js c) (l.calls c).way (plan_of js y) (verdict js y) y l.files else Some l.files
 
+abbrev pub hour : List Event → Files → Call → Hour
+hour js f k =
+    record { moment = moment js; handle = suc f.opened; stale = stale_now js (seen_at f.opens k.way.handle); alone = is_alone f.opens k.way.handle }
+
 abbrev pub took_in : List Event → Reply → ℕ → Ledger → Call
-took_in js y c l =
-    took_call (moment js) (suc l.files.opened) (stale_now js (seen_at l.files.opens (l.calls c).way.handle)) (command js c) (plan_of js y) (verdict js y) y (l.calls c)
+took_in js y c l = took_call (hour js l.files (l.calls c)) (command js c) (plan_of js y) (verdict js y) y (l.calls c)
 
 abbrev pub took_ledger : List Event → Reply → Option ℕ → Ledger → Ledger
 took_ledger js y o l =

@@ -14,7 +14,8 @@ use Rattle.n41_model.specs.declared.words.Phase.TheVariants.{Down, Binding, Sess
 use Rattle.n41_model.specs.declared.words.Sent.{Sent}
 use Rattle.n41_model.specs.declared.words.Sent.TheVariants.{Never, Waits, Delayed, Unbound}
 use Rattle.n41_model.specs.declared.words.Setup.{Setup}
-use Rattle.n41_opens.specs.Opens.{holds_any}
+use Rattle.n41_opens.specs.Opens.{Table}
+use Rattle.n41_opens.specs.declared.handles.Open.{Open}
 use Rattle.n41_calls.specs.Answers.{round_limit, breach_at}
 use Rattle.n41_model.specs.Requests.{standing, moment, quit, rounds, bares, bare, outs, out, used, sent, is_waiting, bare_waits}
 use Rattle.n41_model.specs.Sessions.{client, session, slots, bound, completed, phase, put_off, passed, free_slot, highest, is_empty, next_xid}
@@ -107,12 +108,20 @@ destroy_in (Some m) k = Some (plan.DestroySession m.sid)
 destroy_in None (Some k) = Some (plan.DestroyClient k.id)
 destroy_in None None = None
 
+abbrev pub any_handle : List (ℕ × Open) → Bool
+any_handle [] = false
+any_handle (h ∷ hs) = true
+
+-- some handle is open
+abbrev pub has_handles : Table → Bool
+has_handles t = any_handle t.handles
+
 abbrev pub client_free : Bool → Option KnownClient → Option KnownClient
 client_free held k = if held then None else k
 
 -- what ends the session, and then the client id where no open is held
 abbrev pub destroy_plan : ℕ → List Event → Option Plan
-destroy_plan n js = destroy_in (session js) (client_free (holds_any (files n js).opens) (client js))
+destroy_plan n js = destroy_in (session js) (client_free (has_handles (files n js).opens) (client js))
 
 -- a slot from n on, of so many, has a request that waits for its reply
 abbrev pub waits_from : List Event → ℕ → ℕ → Bool

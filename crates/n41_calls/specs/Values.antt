@@ -96,25 +96,29 @@ listing_in body = None
 
 -- ---- what a command is answered
 
--- a walk has no value of its own, and a listing none before its end
-abbrev pub body_value : Option Command → Option Listed → Plan → ReplyBody → Option Value
-body_value k l (plan.CreateFile dir name guarded owner) (Results s xs) = Some value.Opened
-body_value k l (plan.OpenAt fh mode owner c) (Results s xs) = opened_value k
-body_value k l (plan.Read fh i from n) (Results s xs) = got_value xs
-body_value k l (plan.WriteBytes fh i from b) (Results s xs) = wrote_value xs
-body_value k l (plan.Resize fh i z) (Results s xs) = Some value.Truncated
-body_value k l (plan.Downgrade fh i m) (Results s xs) = Some value.Closed
-body_value k l (plan.CloseState fh i) (Results s xs) = Some value.Closed
-body_value k l (plan.Stat at) (Results s xs) = stat_value xs
-body_value k l (plan.List at n v size) (Results s xs) = list_value l (listing_of xs)
-body_value k l (plan.MakeDir dir name) (Results s xs) = Some value.Made
-body_value k l (plan.Remove dir name) (Results s xs) = Some value.Removed
-body_value k l (plan.Rename from old to new) (Results s xs) = Some value.Renamed
-body_value k l p body = None
+-- a close that was alone with its record by the time of its downgrade still has to close it
+abbrev pub closed_value : Bool → Option Value
+closed_value alone = if alone then None else Some value.Closed
+
+-- A walk has no value of its own, and a listing none before its end. `alone`: no other handle has the record of the command's handle.
+abbrev pub body_value : Option Command → Bool → Option Listed → Plan → ReplyBody → Option Value
+body_value k alone l (plan.CreateFile dir name guarded owner) (Results s xs) = Some value.Opened
+body_value k alone l (plan.OpenAt fh mode owner c) (Results s xs) = opened_value k
+body_value k alone l (plan.Read fh i from n) (Results s xs) = got_value xs
+body_value k alone l (plan.WriteBytes fh i from b) (Results s xs) = wrote_value xs
+body_value k alone l (plan.Resize fh i z) (Results s xs) = Some value.Truncated
+body_value k alone l (plan.Downgrade fh i m) (Results s xs) = closed_value alone
+body_value k alone l (plan.CloseState fh i) (Results s xs) = Some value.Closed
+body_value k alone l (plan.Stat at) (Results s xs) = stat_value xs
+body_value k alone l (plan.List at n v size) (Results s xs) = list_value l (listing_of xs)
+body_value k alone l (plan.MakeDir dir name) (Results s xs) = Some value.Made
+body_value k alone l (plan.Remove dir name) (Results s xs) = Some value.Removed
+body_value k alone l (plan.Rename from old to new) (Results s xs) = Some value.Renamed
+body_value k alone l p body = None
 
 -- the value that the reply to the last request of a command spells, behind what a listing told before
-abbrev pub value_of : Option Command → Option Listed → Plan → Reply → Option Value
-value_of k l p y = body_value k l p y.body
+abbrev pub value_of : Option Command → Bool → Option Listed → Plan → Reply → Option Value
+value_of k alone l p y = body_value k alone l p y.body
 
 abbrev pub done_with : Option Value → Option Answer
 done_with None = None
@@ -143,8 +147,8 @@ abbrev pub is_outdated : Option Command → Status → Bool
 is_outdated k s = is_close k && is_old_stateid s
 
 -- the answer that a reply gives to the command of whose step it ended this attempt; None where it gives none yet
-abbrev pub answer_in : Option Command → Option Listed → Plan → Option Verdict → ℕ → Reply → Option Answer
-answer_in k l p (Some (v.Ran s)) n y =
-    if is_ok s then done_with (value_of k l p y) else if is_again s n || is_outdated k s then None else Some (says.Refused s)
-answer_in k l p (Some (v.TooBig s)) n y = Some (says.Refused s)
-answer_in k l p w n y = None
+abbrev pub answer_in : Option Command → Bool → Option Listed → Plan → Option Verdict → ℕ → Reply → Option Answer
+answer_in k alone l p (Some (v.Ran s)) n y =
+    if is_ok s then done_with (value_of k alone l p y) else if is_again s n || is_outdated k s then None else Some (says.Refused s)
+answer_in k alone l p (Some (v.TooBig s)) n y = Some (says.Refused s)
+answer_in k alone l p w n y = None

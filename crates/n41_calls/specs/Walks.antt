@@ -12,8 +12,8 @@ use Rattle.n41_types.specs.declared.plans.Plan.TheVariants as plan
 use Rattle.n41_types.specs.declared.spans.Mode.{Mode}
 use Rattle.n41_types.specs.contracts.plans.PlanPartialEq.TheImpl as plans
 use Rattle.n41_results.specs.declared.sessions.SessionMade.{SessionMade}
-use Rattle.n41_opens.specs.declared.shrinks.Shrink.{Shrink}
-use Rattle.n41_opens.specs.declared.shrinks.Shrink.TheVariants.{Keep, Downgrade, Close}
+use Rattle.n41_opens.specs.declared.answers.Shrink.{Shrink}
+use Rattle.n41_opens.specs.declared.answers.Shrink.TheVariants.{Keep, Downgrade, Close}
 use Rattle.n41_model.specs.declared.words.Listed.{Listed}
 use Rattle.n41_model.specs.declared.words.Stale.{Stale}
 use Rattle.n41_model.specs.declared.words.Way.{Way}
@@ -154,9 +154,9 @@ create at None g o = None
 create at (Some n) g o = Some (plan.CreateFile at n g o)
 
 -- the root is opened by its filehandle, which a walk over no names tells
-abbrev pub open : Place → Mode → List ℕ → Option Plan
-open Root m o = Some (plan.Walk Root [])
-open (At fh) m o = Some (plan.OpenAt fh m o claim.Fh)
+abbrev pub opening : Place → Mode → List ℕ → Option Plan
+opening Root m o = Some (plan.Walk Root [])
+opening (At fh) m o = Some (plan.OpenAt fh m o claim.Fh)
 
 abbrev pub make_dir : Place → Option (List ℕ) → Option Plan
 make_dir at None = None
@@ -213,7 +213,7 @@ close t (Some h) = close_after t h
 -- what a command asks for at the end of its walk
 abbrev pub goal : Sight → Command → Way → Option Plan
 goal s (asks.Create l p g) w = create w.at (last_of p) g s.owner
-goal s (asks.OpenFile l p m) w = open w.at m s.owner
+goal s (asks.OpenFile l p m) w = opening w.at m s.owner
 goal s (asks.Read l o n) w = read (read_most s.session) s.seen o n
 goal s (asks.Write l o b) w = write (write_most s.session) s.seen o b
 goal s (asks.Truncate l z) w = resize s.seen z

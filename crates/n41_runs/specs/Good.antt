@@ -15,7 +15,7 @@ use Rattle.n41_calls.specs.OneOut.{OneOut}
 use Rattle.n41_model.specs.Requests.{out, doubt, rounds}
 use Rattle.n41_calls.specs.Text.{answer_to}
 use Rattle.n41_types.specs.declared.spans.Mode.{Mode}
-use Rattle.n41_opens.specs.Opens.{is_closing}
+use Rattle.n41_opens.specs.Opens.{open_of, is_marked}
 use Rattle.n41_calls.specs.Walks.{Seen}
 use Rattle.n41_calls.specs.Files.{seen_at}
 use Rattle.n41_calls.specs.Calls.{files}
@@ -65,7 +65,7 @@ IsOnRecord w None = Unit {0}
 IsOnRecord w (Some s) = is_on_record (open_record w s.owner s.fh) s.current.other s.mode ≡ true
 
 abbrev pub StateKept : ℕ → List Step → Type 0
-StateKept n w = (h : ℕ) → is_closing h (files n (client w)).opens ≡ false → IsOnRecord w (seen_at (files n (client w)).opens (Some h))
+StateKept n w = (h : ℕ) → is_marked (open_of (files n (client w)).opens.handles h) ≡ false → IsOnRecord w (seen_at (files n (client w)).opens (Some h))
 
 pub record Good (u : Setup) (w : List Step) : Type 0 where
   pub one_out : OneOut (client w)

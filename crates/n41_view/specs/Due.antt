@@ -13,9 +13,8 @@ use Rattle.n41_model.specs.declared.words.Setup.{Setup}
 use Rattle.n41_calls.specs.Answers.{round_limit}
 use Rattle.n41_model.specs.Requests.{is_waiting}
 use Rattle.n41_model.specs.Sessions.{passed, unused_xid, xid_after}
-use Rattle.n41_calls.specs.Due.{only_if, with_plan, bare_with, goes_again, is_dead, is_running, is_session, bind_in, create_in, own_plan_in, client_free, destroy_in}
+use Rattle.n41_calls.specs.Due.{only_if, with_plan, bare_with, goes_again, is_dead, is_running, is_session, bind_in, create_in, own_plan_in, has_handles, client_free, destroy_in}
 use Rattle.n41_view.specs.View.{View}
-use Rattle.n41_opens.specs.Opens.{holds_any}
 use Rattle.n41_view.specs.Step.{requests, seat_ready, seat_plan}
 use Rattle.n41_view.specs.declared.tables.Facts.{Facts}
 use Rattle.n41_view.specs.declared.tables.Held.{Held}
@@ -115,7 +114,7 @@ plan_for u f p = None
 
 -- what ends the session, and then the client id where no open is held
 abbrev pub destroy_now : View → Option Plan
-destroy_now w = destroy_in w.facts.session (client_free (holds_any w.files.opens) w.facts.client)
+destroy_now w = destroy_in w.facts.session (client_free (has_handles w.files.opens) w.facts.client)
 
 -- ---- the items
 

@@ -19,8 +19,8 @@ use Rattle.n41_model.specs.Replies.{is_final, gives_back, sequence_status, verdi
 use Rattle.n41_model.specs.Requests.{is_bare, is_on, turn_of, has_xid, knows, session_in, sent_after, is_waiting, slot_number}
 use Rattle.n41_model.specs.Sessions.{client_after, session_after, slots_after, bound_after, unbound_after, completed_after, completed_by, dialed_phase, broke_phase, worked, bare_phase, slot_phase, is_step_of, is_bare_delay, is_refused_complete, target_after}
 use Rattle.n41_calls.specs.Walks.{Seen, Sight, next_plan, is_plan, owner_text}
-use Rattle.n41_calls.specs.Files.{Files, seen_at, files_after, files_or}
-use Rattle.n41_calls.specs.Calls.{Call, fresh_call, put_call, took_call, answered_call, is_open_by, is_ready_call, is_caller, in_running, began_files, answered_files}
+use Rattle.n41_calls.specs.Files.{Files, seen_at, is_alone, files_after, files_or}
+use Rattle.n41_calls.specs.Calls.{Call, Hour, fresh_call, put_call, took_call, answered_call, is_open_by, is_ready_call, is_caller, in_running, began_files, answered_files}
 use Rattle.n41_calls.specs.Answers.{breaks, place_or}
 use Rattle.n41_view.specs.View.{View}
 use Rattle.n41_view.specs.declared.tables.Facts.{Facts}
@@ -388,10 +388,14 @@ owner_of (Some h) = h.owner
 abbrev pub seat_stale : View → Seat → Stale
 seat_stale w s = record { place = suc w.facts.events; alone = not (open_held (owner_of (seat_seen w.files s)) w.facts.events w.slots) }
 
+abbrev pub seat_hour : View → Seat → Hour
+seat_hour w s =
+    record { moment = w.facts.moment; handle = suc w.files.opened; stale = seat_stale w s; alone = is_alone w.files.opens s.way.handle }
+
 abbrev pub took_seat : View → Said → Reply → Seat → Seat
 took_seat w a y s =
     if is_caller a.owner s.caller
-    then with_call s (took_call w.facts.moment (suc w.files.opened) (seat_stale w s) s.command a.plan a.slot y (call_of s))
+    then with_call s (took_call (seat_hour w s) s.command a.plan a.slot y (call_of s))
     else s
 
 abbrev pub answered_seat : ℕ → Answer → Seat → Seat

@@ -1,0 +1,2 @@
+pub mod Seqids
+pub mod Fronts

@@ -1,0 +1,2 @@
+//! The order of seqids (stand-in).
+#![tactic(auto)]
