@@ -88,7 +88,7 @@ pub struct Slot {
 }
 
 /// A caller, and its command that is unanswered.
-#[derive(Drop, PartialEq, Eq)]
+#[derive(Drop)]
 pub struct Seat {
     pub caller: u32,
     pub command: Option<Command>,
