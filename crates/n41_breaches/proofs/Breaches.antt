@@ -33,7 +33,9 @@ use Rattle.n41_breaches.proofs.Standing.{does_states, takes_states, runs_states,
 use Rattle.n41_breaches.specs.Laws.{NoBreach}
 use Rattle.n41_runs.specs.Rules.{IsNoReply, Sizes, LegalBy, MayBeTaken}
 use Rattle.n41_runs.specs.Server.{was_made, alive}
-use Rattle.n41_runs.specs.Steps.{Step, Does, Takes, Runs, Repeats, Refuses, Names, Makes, Binds, Ends, client, fate}
+use Rattle.n41_runs.specs.declared.steps.Step.{Step}
+use Rattle.n41_runs.specs.declared.steps.Step.TheVariants.{Does, Takes, Runs, Repeats, Refuses, Names, Makes, Binds, Ends}
+use Rattle.n41_runs.specs.Steps.{client, fate}
 
 bare_is : (u : Setup) (js : List Event) → Kept u js → BareIs js
 bare_is u js k = λ q e. ((parted u js k).bare_message q e, no_use q.slot (first_bare (bares js) q (seats u js k).lone e))

@@ -32,7 +32,9 @@ use Rattle.n41_breaches.proofs.Numbers.{Starts, BareSays, Whereabouts, Clients, 
 use Rattle.n41_breaches.proofs.Serving.{same_test, is_same}
 use Rattle.n41_runs.specs.Rules.{IsNoReply, MayBeTaken}
 use Rattle.n41_runs.specs.Server.{is_there, was_named}
-use Rattle.n41_runs.specs.Steps.{Step, Does, Takes, client, message, messages, carrier, fate}
+use Rattle.n41_runs.specs.declared.steps.Step.{Step}
+use Rattle.n41_runs.specs.declared.steps.Step.TheVariants.{Does, Takes}
+use Rattle.n41_runs.specs.Steps.{client, message, messages, carrier, fate}
 
 does_says : (w : List Step) (e : Event) (r : Request) (y : Reply) → BareSays w r y → BareSays (Does e ∷ w) r y
 does_says w e r y s = record { named = s.named; stale = s.stale; fine = s.fine }

@@ -25,7 +25,9 @@ use Rattle.n41_net.proofs.Net.{Serves, last_bare, runs_serves, repeats_serves}
 use Rattle.n41_breaches.proofs.Parted.{put_end, put_drop, put_create, create_of, has_id}
 use Rattle.n41_runs.specs.Rules.{Sizes, Allowed, MayRepeat, MayMakeAgain, plan_refuses, misorders, is_last, is_gone, is_misordered, is_stale}
 use Rattle.n41_runs.specs.Server.{was_named, confirmed, is_there, next_sequence, last_made, was_made, alive, is_bind_of}
-use Rattle.n41_runs.specs.Steps.{Step, Runs, Repeats, Names, client, message, fate, ran_reply, refusal, made_reply}
+use Rattle.n41_runs.specs.declared.steps.Step.{Step}
+use Rattle.n41_runs.specs.declared.steps.Step.TheVariants.{Runs, Repeats, Names}
+use Rattle.n41_runs.specs.Steps.{client, message, fate, ran_reply, refusal, made_reply}
 
 -- the sequence with which a client id was given
 abbrev pub start : List Step → ℕ → ℕ

@@ -26,7 +26,9 @@ use Rattle.n41_breaches.proofs.Parted.{Parted, put_end, put_drop, create_of, has
 use Rattle.n41_breaches.proofs.Numbers.{start, Starts, BareSays, States, Whereabouts, Clients, Grows, served_clients, says_by, says_made, says_moved, create_verdict_made, leaves_grow, refusal_says}
 use Rattle.n41_runs.specs.Rules.{Sizes, Allowed, NamesAgain, MayName, MayMake, MayBind, MayEnd, plan_refuses, refuses_by}
 use Rattle.n41_runs.specs.Server.{is_id, client_in, unless_ended, was_named, confirmed, unconfirmed, is_there, was_made, alive, is_bind_of}
-use Rattle.n41_runs.specs.Steps.{Step, Refuses, Names, Makes, Binds, Ends, client, message, refusal, named_reply, made_reply, bound_reply, ended_reply}
+use Rattle.n41_runs.specs.declared.steps.Step.{Step}
+use Rattle.n41_runs.specs.declared.steps.Step.TheVariants.{Refuses, Names, Makes, Binds, Ends}
+use Rattle.n41_runs.specs.Steps.{client, message, refusal, named_reply, made_reply, bound_reply, ended_reply}
 
 -- the request without a slot that is out is the last one that was put
 abbrev pub BareIs : List Event → Type 0

@@ -24,7 +24,9 @@ use Rattle.n41_breaches.proofs.Numbers.{start, State, States, Clients, or_case}
 use Rattle.n41_breaches.proofs.Serving.{same_test, is_same, other_id, or_none}
 use Rattle.n41_runs.specs.Rules.{Sizes, Allowed, MayName, MakesNext, MayMake}
 use Rattle.n41_runs.specs.Server.{is_id, client_in, unless_ended, was_named, confirmed, unconfirmed, is_there, next_sequence, last_made, was_made, alive, is_session, is_end_of}
-use Rattle.n41_runs.specs.Steps.{Step, Does, Takes, Runs, Repeats, Refuses, Names, Makes, Binds, Ends, client, message, messages}
+use Rattle.n41_runs.specs.declared.steps.Step.{Step}
+use Rattle.n41_runs.specs.declared.steps.Step.TheVariants.{Does, Takes, Runs, Repeats, Refuses, Names, Makes, Binds, Ends}
+use Rattle.n41_runs.specs.Steps.{client, message, messages}
 
 -- ---- what was put
 

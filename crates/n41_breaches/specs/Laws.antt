@@ -4,7 +4,8 @@ use Rattle.n41_model.specs.declared.words.Setup.{Setup}
 use Rattle.n41_calls.specs.Answers.{breach_at}
 use Rattle.n41_calls.specs.Kept.{Kept}
 use Rattle.n41_runs.specs.Rules.{Legal}
-use Rattle.n41_runs.specs.Steps.{Step, client}
+use Rattle.n41_runs.specs.declared.steps.Step.{Step}
+use Rattle.n41_runs.specs.Steps.{client}
 
 -- in a legal run no reply is taken that breaks the rules
 abbrev pub NoBreach : Type 0

@@ -86,6 +86,9 @@ quiet_of k l = let h : 16 ≤ min 16 k = omega (arith, l) in grind (arith, nat_t
 ended_is : (n : ℕ) (js : List Event) (m : Machine) → Shows n js m → nat_le 16 m.facts.quiet ≡ nat_le 16 (min 16 (rounds js))
 ended_is n js m s = ap (λ (f : Now). nat_le 16 f.quiet) s.facts
 
+pub over_is : (n : ℕ) (js : List Event) (m : Machine) (b : Bool) → Shows n js m → b ≡ nat_le 16 m.facts.quiet → Decides b (round_limit ≤ rounds js)
+over_is n js m b s e = (λ h. quiet_from (rounds js) (sym (ended_is n js m s) ∙ (sym e ∙ h)), λ l. e ∙ (ended_is n js m s ∙ quiet_of (rounds js) l))
+
 busy_is : (n : ℕ) (js : List Event) (c : ℕ) (m : Machine) → Shows n js m → (seat_at m.seats c).busy ≡ (call n js c).busy
 busy_is n js c m s = ap (λ (z : Seat). z.busy) (s.seats c)
 

@@ -34,7 +34,7 @@ same_row v w a b c d e f g h = let p : row v.number v.used v.retried v.last v.ou
 -- ---- a Put
 
 -- the request has this slot
-slot_is : (o : Option SlotUse) (s : ℕ) → is_use_of o s ≡ true → slot_number o ≡ Some s
+pub slot_is : (o : Option SlotUse) (s : ℕ) → is_use_of o s ≡ true → slot_number o ≡ Some s
 slot_is None s e = absurd (cc)
 slot_is (Some u) s e = grind (arith, nat_tests, e)
 
@@ -53,7 +53,7 @@ first_of : (o : Option Request) → first (option_to_list o) ≡ o
 first_of None = refl
 first_of (Some r) = refl
 
-owner_new : (n : ℕ) (js : List Event) (c p : ℕ) (r : Request) (s : ℕ) → is_new js r (slot_number r.slot) ≡ true → owner n (Put c p r ∷ js) s ≡ (if is_on r s then in_running (phase js) (chosen js (ledger n js).calls r.plan n) else owner n js s)
+pub owner_new : (n : ℕ) (js : List Event) (c p : ℕ) (r : Request) (s : ℕ) → is_new js r (slot_number r.slot) ≡ true → owner n (Put c p r ∷ js) s ≡ (if is_on r s then in_running (phase js) (chosen js (ledger n js).calls r.plan n) else owner n js s)
 owner_new n js c p r s e = rw (e, owner) refl
 
 owner_again : (n : ℕ) (js : List Event) (c p : ℕ) (r : Request) (s : ℕ) → is_new js r (slot_number r.slot) ≡ false → owner n (Put c p r ∷ js) s ≡ owner n js s

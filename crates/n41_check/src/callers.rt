@@ -283,6 +283,16 @@ pub(crate) fn is_busy(caller: u32, seats: &Seats) -> bool
     }
 }
 
+/// The number of the caller's last command.
+pub(crate) fn number(caller: u32, seats: &Seats) -> u64
+    ensures { result ≡ (seat_at seats.now caller).number }
+{
+    match seats.get(&caller) {
+        None => 0,
+        Some(seat) => seat.number,
+    }
+}
+
 /// Whether the caller's command of this number is unanswered.
 pub(crate) fn is_asked(caller: u32, number: u64, seats: &Seats) -> bool
     ensures { result ≡ (is_some (seat_at seats.now caller).command && (number == (seat_at seats.now caller).number)) }

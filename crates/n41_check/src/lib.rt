@@ -11,5 +11,7 @@ mod slots;
 mod walk;
 
 pub use laws::a_kept_journal_breaks_no_rule;
+pub use machine::Machine;
 pub use rules::Rule;
+pub use slots::Slot;
 pub use walk::check;

@@ -1,9 +1,13 @@
-ghost use Rattle.std.specs.Prelude.{◌≡◌, ◌∷◌, ◌+◌, ◌<◌, ◌^◌, ℕ, [], List, OnOk, nat_le, option_copied};
+ghost use Rattle.std.specs.Prelude.{◌≡◌, ◌∷◌, ◌+◌, ◌<◌, ◌≤◌, ◌^◌, ℕ, [], List, OnOk, nat_le, option_copied};
+ghost use Rattle.std.specs.Bool.{Decides};
 ghost use Rattle.n41_journal.specs.declared.events.Event.{Event};
 ghost use Rattle.n41_types.specs.declared.commands.Answer.{Answer};
 ghost use Rattle.n41_journal.specs.declared.events.Cause.{Cause};
 ghost use Rattle.n41_journal.specs.declared.events.Event.TheVariants.{Began, Put, Took, Dialed, DialFailed, Broke, Ticked, Answered};
-ghost use Rattle.n41_model.specs.Requests.{bare_verdict_on};
+ghost use Rattle.n41_calls.specs.Answers.{round_limit};
+ghost use Rattle.n41_calls.specs.Calls.{number};
+ghost use Rattle.n41_model.specs.Requests.{bare_verdict_on, rounds};
+ghost use Rattle.n41_check.specs.Rows.{row_in, row_of};
 ghost use Rattle.n41_check.specs.Rules.{Keeps};
 ghost use Rattle.n41_check.specs.declared.rules.Rule.TheVariants as rule;
 ghost use Rattle.n41_check.specs.Asked.{Finds};
@@ -13,7 +17,7 @@ use crate::callers::{self, Seats};
 use crate::now::Now;
 use crate::requests::Requests;
 use crate::rules::Rule;
-use crate::slots::any_doubted;
+use crate::slots::{Slot, any_doubted};
 use n41_journal::Event;
 use n41_model::{BareVerdict, Phase};
 use n41_results::Reply;
@@ -24,7 +28,7 @@ use std::collections::BTreeMap;
 
 /// What is known of a journal that was walked through so far.
 #[derive(Drop)]
-pub(crate) struct Machine<'a> {
+pub struct Machine<'a> {
     /// How many events there were.
     pub(crate) count: u64,
     pub(crate) facts: Now,
@@ -44,7 +48,7 @@ fn bare_verdict(asked: Option<&Request>, reply: &Reply) -> Option<BareVerdict>
 
 impl<'a> Machine<'a> {
     /// Before all events.
-    pub(crate) fn new(alloc: Global) -> Machine<'a>
+    pub fn new(alloc: Global) -> Machine<'a>
         ensures { (n : ℕ) → Shows n [] result }
     {
         Machine {
@@ -56,7 +60,7 @@ impl<'a> Machine<'a> {
     }
 
     /// The caller whose a request is that is put; None where it is the client's own or goes again.
-    fn owner(&self, request: &Request) -> Option<u32>
+    pub fn owner(&self, request: &Request) -> Option<u32>
         ensures { (n : ℕ) (js : List Event) → Shows n js self.now → Owns n js request.now result }
     {
         if !self.requests.is_new(request) {
@@ -68,6 +72,27 @@ impl<'a> Machine<'a> {
             }
             _ => None,
         }
+    }
+
+    /// What is known of a slot.
+    pub fn slot(&self, number: u32) -> Slot<'a>
+        ensures { (n : ℕ) (js : List Event) → Shows n js self.now → row_in result ≡ row_of n js number }
+    {
+        self.requests.slot(number)
+    }
+
+    /// The number of a caller's last command.
+    pub fn number(&self, caller: u32) -> u64
+        ensures { (n : ℕ) (js : List Event) → Shows n js self.now → result ≡ number js caller }
+    {
+        callers::number(caller, &self.seats)
+    }
+
+    /// Whether so many rounds in a row have ended without a reply that the run ends.
+    pub fn is_over(&self) -> bool
+        ensures { (n : ℕ) (js : List Event) → Shows n js self.now → Decides result (round_limit ≤ rounds js) }
+    {
+        self.has_ended()
     }
 
     /// What a reply says of the request that it answers.
@@ -131,7 +156,7 @@ impl<'a> Machine<'a> {
     }
 
     /// A reply was taken.
-    fn took(&mut self, alloc: Global, reply: &Reply) -> Result<(), NoMemory>
+    pub fn took(&mut self, alloc: Global, reply: &Reply) -> Result<(), NoMemory>
         requires { self.old.count + 1 < 2 ^ 64 }
         ensures { OnOk result ((n : ℕ) (js : List Event) (c p : ℕ) → Shows n js self.old → Shows n (Took c p reply.now ∷ js) self.new) }
     {
@@ -192,7 +217,7 @@ impl<'a> Machine<'a> {
     }
 
     /// What is known once this event happened, which leaves at most one request on each slot.
-    pub(crate) fn step(&mut self, alloc: Global, event: &'a Event) -> Result<(), NoMemory>
+    pub fn step(&mut self, alloc: Global, event: &'a Event) -> Result<(), NoMemory>
         requires room { self.old.count + 1 < 2 ^ 64 }
         requires tried { IsTried self.old }
         ensures { OnOk result (Moves self.old event.now self.new) }

@@ -10,22 +10,22 @@ use n41_types::{Class, NoMemory, Request};
 
 /// What is known of a slot on which a request was put.
 #[derive(Clone, Copy)]
-pub(crate) struct Slot<'a> {
-    pub(crate) number: u32,
+pub struct Slot<'a> {
+    pub number: u32,
     /// The last turn that was used on it in this session.
-    pub(crate) used: u32,
+    pub used: u32,
     /// The last request on it was put more than once.
-    pub(crate) retried: bool,
+    pub retried: bool,
     /// The last request that was put on it in this session.
-    pub(crate) last: Option<&'a Request>,
+    pub last: Option<&'a Request>,
     /// The request that is out.
-    pub(crate) out: Option<&'a Request>,
+    pub out: Option<&'a Request>,
     /// Its last Put has no reply, on the connection that stands.
-    pub(crate) waits: bool,
+    pub waits: bool,
     /// A connection broke while it was unanswered.
-    pub(crate) doubt: bool,
+    pub doubt: bool,
     /// The caller whose it is; None where it is the client's own.
-    pub(crate) owner: Option<u32>,
+    pub owner: Option<u32>,
 }
 
 /// A slot on which nothing was put.

@@ -36,7 +36,9 @@ use Rattle.n41_moves.proofs.Single.{Single, single, given, sid_in, or_made, stil
 use Rattle.n41_moves.proofs.Suits.{session_same, session_itself}
 use Rattle.n41_runs.specs.Rules.{IsNoReply, Sizes, Allowed, LegalBy, MayBeTaken, MayRepeat, MayMakeAgain, MayMake}
 use Rattle.n41_runs.specs.Server.{is_session, is_end_of, was_made, alive, slots_given, last_made, client_in, is_id}
-use Rattle.n41_runs.specs.Steps.{Step, Does, Takes, Runs, Repeats, Refuses, Names, Makes, Binds, Ends, client, message, messages, carrier, fate, ran_reply, refusal, refused_result, named_reply, made_reply, bound_reply, ended_reply}
+use Rattle.n41_runs.specs.declared.steps.Step.{Step}
+use Rattle.n41_runs.specs.declared.steps.Step.TheVariants.{Does, Takes, Runs, Repeats, Refuses, Names, Makes, Binds, Ends}
+use Rattle.n41_runs.specs.Steps.{client, message, messages, carrier, fate, ran_reply, refusal, refused_result, named_reply, made_reply, bound_reply, ended_reply}
 
 -- the session that a reply brings
 abbrev pub made_in : ReplyBody → Option SessionMade

@@ -30,7 +30,9 @@ use Rattle.n41_moves.proofs.Puts.{PutIs, put_of}
 use Rattle.n41_moves.proofs.Said.{Said, said, last_put, made_first, none_out}
 use Rattle.n41_moves.proofs.Single.{Single, single}
 use Rattle.n41_runs.specs.Rules.{IsNoReply, Sizes, Allowed, LegalBy, Pending, MayBeTaken, MayRepeat, MayMakeAgain}
-use Rattle.n41_runs.specs.Steps.{Step, Does, Takes, Runs, Repeats, Refuses, Names, Makes, Binds, Ends, client, message, messages, carrier, fate, taken, ran_reply, refusal, named_reply, made_reply, bound_reply, ended_reply}
+use Rattle.n41_runs.specs.declared.steps.Step.{Step}
+use Rattle.n41_runs.specs.declared.steps.Step.TheVariants.{Does, Takes, Runs, Repeats, Refuses, Names, Makes, Binds, Ends}
+use Rattle.n41_runs.specs.Steps.{client, message, messages, carrier, fate, taken, ran_reply, refusal, named_reply, made_reply, bound_reply, ended_reply}
 
 -- the last message that was put without a slot
 abbrev pub last_bare : List Event → ℕ

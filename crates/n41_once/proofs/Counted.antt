@@ -19,11 +19,13 @@ use Rattle.n41_once.proofs.Acts.{acts_in}
 use Rattle.n41_served.proofs.Served.{IsOn, IsCopy}
 use Rattle.n41_moves.proofs.Suits.{is_dir_change}
 use Rattle.n41_told.proofs.Telling.{is_given}
-use Rattle.n41_runs.specs.Effects.{CommandName, Effect, is_named, asked, is_changing, command_on, command_of, effects, effects_of, count_of}
+use Rattle.n41_runs.specs.declared.commands.CommandName.{CommandName}
+use Rattle.n41_runs.specs.Effects.{Effect, is_named, asked, is_changing, command_on, command_of, effects, effects_of, count_of}
 use Rattle.n41_runs.specs.Good.{is_undone}
 use Rattle.n41_runs.specs.Rules.{Sizes}
 use Rattle.n41_runs.specs.Server.{last, kept}
-use Rattle.n41_runs.specs.Steps.{Step, client}
+use Rattle.n41_runs.specs.declared.steps.Step.{Step}
+use Rattle.n41_runs.specs.Steps.{client}
 
 abbrev pub once : Bool → ℕ
 once true = 1

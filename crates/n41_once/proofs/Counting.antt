@@ -19,10 +19,13 @@ use Rattle.n41_once.proofs.Acts.{acts_in}
 use Rattle.n41_served.proofs.Served.{IsCopy, IsOn, Served}
 use Rattle.n41_moves.proofs.Suits.{is_dir_change}
 use Rattle.n41_told.proofs.Telling.{is_given}
-use Rattle.n41_runs.specs.Effects.{command_at, CommandName, command_of, command_on, effects_of, is_changing, is_named, last_of}
+use Rattle.n41_runs.specs.declared.commands.CommandName.{CommandName}
+use Rattle.n41_runs.specs.Effects.{command_at, command_of, command_on, effects_of, is_changing, is_named, last_of}
 use Rattle.n41_runs.specs.Rules.{Sizes}
 use Rattle.n41_runs.specs.Server.{kept, last}
-use Rattle.n41_runs.specs.Steps.{Does, Step, client, message, messages}
+use Rattle.n41_runs.specs.declared.steps.Step.{Step}
+use Rattle.n41_runs.specs.declared.steps.Step.TheVariants.{Does}
+use Rattle.n41_runs.specs.Steps.{client, message, messages}
 use Rattle.n41_results.specs.declared.sessions.SessionMade.{SessionMade}
 use Rattle.n41_journal.specs.declared.events.Event.TheVariants.{Put}
 use Rattle.n41_model.specs.declared.words.Setup.{Setup}

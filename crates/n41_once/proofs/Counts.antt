@@ -24,11 +24,14 @@ use Rattle.n41_once.proofs.Acts.{acts_in, run_acts}
 use Rattle.n41_served.proofs.Served.{IsCopy, IsOn, Ran, Served, body_in}
 use Rattle.n41_moves.proofs.Suits.{change_class, is_dir_change}
 use Rattle.n41_told.proofs.Telling.{is_given, new_class, some_command, told}
-use Rattle.n41_runs.specs.Effects.{CommandName, Effect, asked, change_of, command_of, command_on, effects, effects_of, is_changing, is_named, has_done, acts}
+use Rattle.n41_runs.specs.declared.commands.CommandName.{CommandName}
+use Rattle.n41_runs.specs.Effects.{Effect, asked, change_of, command_of, command_on, effects, effects_of, is_changing, is_named, has_done, acts}
 use Rattle.n41_runs.specs.Good.{is_undone}
 use Rattle.n41_runs.specs.Rules.{Allowed, IsNoReply, LegalBy, Sizes}
 use Rattle.n41_runs.specs.Server.{kept, last}
-use Rattle.n41_runs.specs.Steps.{Binds, Does, Ends, Makes, Names, Refuses, Repeats, Runs, Step, Takes, client, end_status, fate, ran_reply}
+use Rattle.n41_runs.specs.declared.steps.Step.{Step}
+use Rattle.n41_runs.specs.declared.steps.Step.TheVariants.{Binds, Does, Ends, Makes, Names, Refuses, Repeats, Runs, Takes}
+use Rattle.n41_runs.specs.Steps.{client, end_status, fate, ran_reply}
 use Rattle.n41_types.specs.declared.commands.Command.TheVariants as asks
 use Rattle.n41_journal.specs.declared.events.Event.TheVariants.{Answered, Began, Broke, CbPut, CbTook, DialFailed, Dialed, Put, Quit, Ticked, Took}
 use Rattle.n41_model.specs.declared.words.Setup.{Setup}

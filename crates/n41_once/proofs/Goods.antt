@@ -8,7 +8,8 @@ use Rattle.n41_once.proofs.Counts.{counted}
 use Rattle.n41_told.proofs.Settled.{Settled, settled}
 use Rattle.n41_runs.specs.Good.{Good, RunsAreGood}
 use Rattle.n41_runs.specs.Rules.{Sizes}
-use Rattle.n41_runs.specs.Steps.{Step, client}
+use Rattle.n41_runs.specs.declared.steps.Step.{Step}
+use Rattle.n41_runs.specs.Steps.{client}
 
 good_by : (u : Setup) (w : List Step) → Kept u (client w) → Settled u.callers (client w) → {sizes : Sizes} → Counted u.callers sizes w → Good u w
 good_by u w k s c = record {

@@ -23,7 +23,9 @@ use Rattle.n41_told.proofs.Telling.{is_given, took_one}
 use Rattle.n41_runs.specs.Effects.{change_of, command_of, command_on, effects_of, is_changing, is_named}
 use Rattle.n41_runs.specs.Rules.{MayBeTaken, Sizes}
 use Rattle.n41_runs.specs.Server.{alive, kept, last}
-use Rattle.n41_runs.specs.Steps.{Step, Takes, client, fate, message}
+use Rattle.n41_runs.specs.declared.steps.Step.{Step}
+use Rattle.n41_runs.specs.declared.steps.Step.TheVariants.{Takes}
+use Rattle.n41_runs.specs.Steps.{client, fate, message}
 use Rattle.n41_types.specs.declared.plans.Plan.{Plan}
 use Rattle.n41_types.specs.Plans.{class_of}
 use Rattle.n41_results.specs.declared.replies.Reply.{Reply}

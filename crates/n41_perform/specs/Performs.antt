@@ -12,7 +12,8 @@ use Rattle.n41_model.specs.Requests.{rounds}
 use Rattle.n41_calls.specs.Text.{text}
 use Rattle.n41_runs.specs.Good.{Good}
 use Rattle.n41_runs.specs.Rules.{Legal}
-use Rattle.n41_runs.specs.Steps.{Step, client}
+use Rattle.n41_runs.specs.declared.steps.Step.{Step}
+use Rattle.n41_runs.specs.Steps.{client}
 use Rattle.n41_core.specs.Settled.{IsSettled}
 use Rattle.n41_script.specs.Scripts.{IsScript, IsFault, script_limit}
 use Rattle.n41_script.specs.declared.script.Script.{Script}

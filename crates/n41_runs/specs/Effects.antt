@@ -16,14 +16,12 @@ use Rattle.n41_journal.specs.declared.events.Event.TheVariants.{Began, Put}
 use Rattle.n41_calls.specs.Calls.{number, owner}
 use Rattle.n41_model.specs.Replies.{is_ok}
 use Rattle.n41_model.specs.Requests.{is_on, knows, outs, slot_number}
-use Rattle.n41_runs.specs.Steps.{Step, Runs, client, messages}
+use Rattle.n41_runs.specs.declared.commands.CommandName.{CommandName}
+use Rattle.n41_runs.specs.declared.steps.Step.{Step}
+use Rattle.n41_runs.specs.declared.steps.Step.TheVariants.{Runs}
+use Rattle.n41_runs.specs.Steps.{client, messages}
 
 -- ---- commands and their attempts (own)
-
--- a command: its caller, and its number among that caller's commands
-pub record CommandName : Type 0 where
-  pub caller : ℕ
-  pub number : ℕ
 
 abbrev pub is_named : Option CommandName → ℕ → ℕ → Bool
 is_named None c n = false

@@ -20,7 +20,8 @@ use Rattle.n41_calls.specs.Walks.{Seen}
 use Rattle.n41_calls.specs.Files.{seen_at}
 use Rattle.n41_calls.specs.Calls.{files}
 use Rattle.n41_runs.specs.Records.{OpenRecord, open_record, same_bytes, covers}
-use Rattle.n41_runs.specs.Steps.{Step, client}
+use Rattle.n41_runs.specs.declared.steps.Step.{Step}
+use Rattle.n41_runs.specs.Steps.{client}
 use Rattle.n41_runs.specs.Rules.{Legal}
 use Rattle.n41_runs.specs.Effects.{asked, is_changing, command_on, effects, effects_of, is_named, Effect}
 

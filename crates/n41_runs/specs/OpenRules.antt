@@ -13,7 +13,8 @@ use Rattle.n41_model.specs.Replies.{is_loss}
 use Rattle.n41_calls.specs.Values.{reached}
 use Rattle.n41_calls.specs.Files.{open_stateid, shrunk_stateid}
 use Rattle.n41_runs.specs.Records.{OpenRecord, open_record, named_record, was_given, allows, reads, writes}
-use Rattle.n41_runs.specs.Steps.{Step, end_status}
+use Rattle.n41_runs.specs.declared.steps.Step.{Step}
+use Rattle.n41_runs.specs.Steps.{end_status}
 
 -- no record changes so often (own)
 abbrev pub change_limit : ℕ

@@ -10,7 +10,8 @@ use Rattle.n41_types.specs.declared.spans.Mode.TheVariants.{Read, Write, Both}
 use Rattle.n41_results.specs.declared.results.Res.{Res}
 use Rattle.n41_calls.specs.Values.{reached}
 use Rattle.n41_calls.specs.Files.{open_stateid, shrunk_stateid}
-use Rattle.n41_runs.specs.Steps.{Step, Runs}
+use Rattle.n41_runs.specs.declared.steps.Step.{Step}
+use Rattle.n41_runs.specs.declared.steps.Step.TheVariants.{Runs}
 
 abbrev pub same_bytes : List ℕ → List ℕ → Bool
 same_bytes a b = pointwise nat_eq a b

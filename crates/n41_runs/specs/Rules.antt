@@ -20,7 +20,9 @@ use Rattle.n41_journal.specs.declared.events.Event.{Event}
 use Rattle.n41_journal.specs.declared.events.Event.TheVariants.{Took, CbTook}
 use Rattle.n41_model.specs.Replies.{is_ok, is_delay, is_not_bound, is_uncached, is_size_refusal, repeats, has_its_answer, is_half_open, is_wide_enough}
 use Rattle.n41_model.specs.Requests.{standing}
-use Rattle.n41_runs.specs.Steps.{Step, Does, Takes, Runs, Repeats, Refuses, Names, Makes, Binds, Ends, client, message, carrier, fate, taken, end_status, ran_reply, made_reply}
+use Rattle.n41_runs.specs.declared.steps.Step.{Step}
+use Rattle.n41_runs.specs.declared.steps.Step.TheVariants.{Does, Takes, Runs, Repeats, Refuses, Names, Makes, Binds, Ends}
+use Rattle.n41_runs.specs.Steps.{client, message, carrier, fate, taken, end_status, ran_reply, made_reply}
 use Rattle.n41_runs.specs.OpenRules.{KeepsRecords}
 use Rattle.n41_runs.specs.Server.{last, kept, was_made, alive, slots_given, made_for, is_bound, was_named, confirmed, is_there, next_sequence, last_made}
 

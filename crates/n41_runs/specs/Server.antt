@@ -8,7 +8,9 @@ use Rattle.n41_types.specs.contracts.identities.SessionIdPartialEq.TheImpl as se
 use Rattle.n41_results.specs.declared.replies.ReplyBody.{ReplyBody}
 use Rattle.n41_results.specs.declared.sessions.SessionMade.{SessionMade}
 use Rattle.n41_model.specs.Requests.{turn_of}
-use Rattle.n41_runs.specs.Steps.{Step, Runs, Names, Makes, Binds, Ends, client, carrier, ran_reply}
+use Rattle.n41_runs.specs.declared.steps.Step.{Step}
+use Rattle.n41_runs.specs.declared.steps.Step.TheVariants.{Runs, Names, Makes, Binds, Ends}
+use Rattle.n41_runs.specs.Steps.{client, carrier, ran_reply}
 
 abbrev pub is_session : SessionId → SessionId → Bool
 is_session a b = session_id.ghosts.eq a b

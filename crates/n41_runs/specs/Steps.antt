@@ -1,4 +1,4 @@
--- The steps of a client, the net and a server, and the messages of a client. A run is a list of steps, the newest first.
+-- The messages of a client, its journal in a run, and what the server and the net did. A run is a list of steps, the newest first.
 use Rattle.std.specs.Prelude.{ℕ, suc, ◌==◌, Bool, true, false, List, [], ◌∷◌, Option, Some, None, Ok, Err, if◌then◌else◌}
 use Rattle.n41_types.specs.declared.plans.Plan.{Plan}
 use Rattle.n41_types.specs.declared.plans.Plan.TheVariants as plan
@@ -16,6 +16,8 @@ use Rattle.n41_results.specs.declared.sessions.SessionMade.{SessionMade}
 use Rattle.n41_results.specs.Results.{ok, status_of}
 use Rattle.n41_journal.specs.declared.events.Event.{Event}
 use Rattle.n41_journal.specs.declared.events.Event.TheVariants.{Put, Took}
+use Rattle.n41_runs.specs.declared.steps.Step.{Step}
+use Rattle.n41_runs.specs.declared.steps.Step.TheVariants.{Does, Takes, Runs, Repeats, Refuses, Names, Makes, Binds, Ends}
 
 -- ---- messages: the requests that the client put, numbered from 0 over all its connections (own)
 
@@ -37,27 +39,7 @@ carrier [] k = 0
 carrier (Put c p r ∷ js) k = if messages js == k then c else carrier js k
 carrier (e ∷ js) k = carrier js k
 
--- ---- steps. A step of the server names the message that it answers, the request in it, and what the server chose.
-
-pub data Step : Type 0 where
-  -- the client did something, or met something that is no reply
-  Does : (e : Event) → Step
-  -- the client took the answer to message k from its connection, at this place
-  Takes : (k c p : ℕ) (y : Reply) → Step
-  -- a new turn: the operations ran, and SEQUENCE answered q, those behind it xs
-  Runs : (k : ℕ) (r : Request) (q : Sequenced) (xs : List Res) → Step
-  -- a turn, or a CREATE_SESSION, that the server has had: nothing runs
-  Repeats : (k : ℕ) (r : Request) (y : Reply) → Step
-  -- an error, which changes nothing
-  Refuses : (k : ℕ) (r : Request) (s : Status) → Step
-  -- EXCHANGE_ID names a client
-  Names : (k : ℕ) (r : Request) (i : Identity) → Step
-  -- CREATE_SESSION makes a session
-  Makes : (k : ℕ) (r : Request) (m : SessionMade) → Step
-  -- BIND_CONN_TO_SESSION binds the connection of the message
-  Binds : (k : ℕ) (r : Request) (b : Bound) → Step
-  -- DESTROY_SESSION or DESTROY_CLIENTID removes a session or a client id
-  Ends : (k : ℕ) (r : Request) → Step
+-- ---- steps
 
 -- the journal of the client
 abbrev pub client : List Step → List Event

@@ -26,7 +26,9 @@ use Rattle.n41_model.specs.declared.words.Setup.{Setup}
 use Rattle.n41_calls.specs.Kept.{Kept}
 use Rattle.n41_runs.specs.Effects.{effects_of}
 use Rattle.n41_runs.specs.Rules.{Legal}
-use Rattle.n41_runs.specs.Steps.{Step, Does, Takes, Runs, Repeats, Refuses, Names, Makes, Binds, client, ran_reply, refusal, named_reply, made_reply, bound_reply}
+use Rattle.n41_runs.specs.declared.steps.Step.{Step}
+use Rattle.n41_runs.specs.declared.steps.Step.TheVariants.{Does, Takes, Runs, Repeats, Refuses, Names, Makes, Binds}
+use Rattle.n41_runs.specs.Steps.{client, ran_reply, refusal, named_reply, made_reply, bound_reply}
 
 -- ---- who is there
 

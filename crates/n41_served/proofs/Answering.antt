@@ -32,7 +32,9 @@ use Rattle.n41_moves.proofs.Suits.{session_same}
 use Rattle.n41_net.proofs.Verdicts.{is_ran, is_dropped, is_too_big, dropped_verdict, dropped_is, refusal_verdict, delay_verdict, gone_verdict, unbound_verdict, size_verdict}
 use Rattle.n41_runs.specs.Rules.{Sizes, Allowed, Pending, MayRepeat, MayMakeAgain, MayMake, slot_refuses, refuses_by, refuses, is_gone, is_bad_slot, is_misordered, is_out_of_turn, is_uncached_body}
 use Rattle.n41_runs.specs.Server.{last, kept, alive, was_made, is_session, is_end_of, is_bound, slots_given}
-use Rattle.n41_runs.specs.Steps.{Step, Repeats, Refuses, Names, Makes, Binds, Ends, client, message, carrier, fate, refusal, named_reply, made_reply, bound_reply, ended_reply}
+use Rattle.n41_runs.specs.declared.steps.Step.{Step}
+use Rattle.n41_runs.specs.declared.steps.Step.TheVariants.{Repeats, Refuses, Names, Makes, Binds, Ends}
+use Rattle.n41_runs.specs.Steps.{client, message, carrier, fate, refusal, named_reply, made_reply, bound_reply, ended_reply}
 
 -- ---- what is awaited has the message that was put last
 

@@ -24,7 +24,9 @@ use Rattle.n41_served.proofs.Served.{Served, Says, IsCopy, Ran, body_in}
 use Rattle.n41_moves.proofs.Single.{Single, given, sid_in}
 use Rattle.n41_runs.specs.Rules.{Sizes}
 use Rattle.n41_runs.specs.Server.{last, kept, alive}
-use Rattle.n41_runs.specs.Steps.{Step, Does, client, message, messages, carrier, fate}
+use Rattle.n41_runs.specs.declared.steps.Step.{Step}
+use Rattle.n41_runs.specs.declared.steps.Step.TheVariants.{Does}
+use Rattle.n41_runs.specs.Steps.{client, message, messages, carrier, fate}
 
 -- ---- what a Put makes of the slots
 

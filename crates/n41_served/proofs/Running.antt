@@ -26,7 +26,9 @@ use Rattle.n41_moves.proofs.Suits.{session_same, session_itself}
 use Rattle.n41_net.proofs.Verdicts.{is_ran, is_dropped, is_too_big, run_verdict}
 use Rattle.n41_runs.specs.Rules.{Sizes, Allowed, Pending, MayRun}
 use Rattle.n41_runs.specs.Server.{last, kept, alive, is_session}
-use Rattle.n41_runs.specs.Steps.{Step, Runs, client, message, fate, ran_reply, end_status}
+use Rattle.n41_runs.specs.declared.steps.Step.{Step}
+use Rattle.n41_runs.specs.declared.steps.Step.TheVariants.{Runs}
+use Rattle.n41_runs.specs.Steps.{client, message, fate, ran_reply, end_status}
 
 -- what runs is the request that is out on its slot, at the turn that was used last
 pub record IsNext (w : List Step) (r : Request) (p : SlotUse) : Type 0 where

@@ -20,7 +20,8 @@ use Rattle.n41_moves.proofs.Single.{Single, given, sid_in}
 use Rattle.n41_net.proofs.Verdicts.{is_ran, is_dropped, is_too_big}
 use Rattle.n41_runs.specs.Rules.{Sizes}
 use Rattle.n41_runs.specs.Server.{last, kept, alive}
-use Rattle.n41_runs.specs.Steps.{Step, client, message, fate}
+use Rattle.n41_runs.specs.declared.steps.Step.{Step}
+use Rattle.n41_runs.specs.Steps.{client, message, fate}
 
 -- the request is out on its slot
 pub record IsOn (js : List Event) (r : Request) (p : SlotUse) : Type 0 where

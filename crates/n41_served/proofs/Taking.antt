@@ -34,7 +34,9 @@ use Rattle.n41_moves.proofs.Single.{Single, single, given, sid_in, or_made}
 use Rattle.n41_net.proofs.Verdicts.{is_ran, is_dropped, is_too_big, ends, final_is, gives_is}
 use Rattle.n41_runs.specs.Rules.{IsNoReply, Sizes, LegalBy, MayBeTaken}
 use Rattle.n41_runs.specs.Server.{last, kept, alive}
-use Rattle.n41_runs.specs.Steps.{Step, Does, Takes, Runs, Repeats, Refuses, Names, Makes, Binds, Ends, client, message, fate}
+use Rattle.n41_runs.specs.declared.steps.Step.{Step}
+use Rattle.n41_runs.specs.declared.steps.Step.TheVariants.{Does, Takes, Runs, Repeats, Refuses, Names, Makes, Binds, Ends}
+use Rattle.n41_runs.specs.Steps.{client, message, fate}
 
 -- ---- a slot after a final reply
 

@@ -1,5 +1,6 @@
 -- What the answers to commands say of the requests that are out.
-use Rattle.n41_runs.specs.Effects.{CommandName, is_named, command_on, last_of, change_of}
+use Rattle.n41_runs.specs.declared.commands.CommandName.{CommandName}
+use Rattle.n41_runs.specs.Effects.{is_named, command_on, last_of, change_of}
 use Rattle.std.proofs.Common.{◌≡◌, ◌≢◌, inl, inr, ℕ, suc, ◌<◌, ◌≤◌, ◌==◌, Bool, true, false, ◌&&◌, ◌||◌, List, [], ◌∷◌, Option, Some, None, if◌then◌else◌, refl, sym, ◌∙◌, ap, subst, arith, true≢false}
 use Rattle.std.proofs.lemmas.Bool.Decides.{nat_tests}
 use Rattle.n41_types.specs.declared.commands.Answer.{Answer}

@@ -42,7 +42,8 @@ use Rattle.n41_moves.proofs.Puts.{PutOf, PutIs, ByStep, ByEnd, put_of}
 use Rattle.n41_moves.proofs.Said.{Said, said, none_out, made_first}
 use Rattle.n41_moves.proofs.Single.{Single, single, took_outs, took_bares}
 use Rattle.n41_moves.proofs.Suits.{Suits, is_pause, is_bare_class}
-use Rattle.n41_runs.specs.Effects.{CommandName, is_named, asked, command_on}
+use Rattle.n41_runs.specs.declared.commands.CommandName.{CommandName}
+use Rattle.n41_runs.specs.Effects.{is_named, asked, command_on}
 use Rattle.n41_told.proofs.Told.{Told, GoesOn, SameFacts, caller_of, named_is, is_so_named, same_told, new_told}
 
 -- ---- a reply to a request on a slot

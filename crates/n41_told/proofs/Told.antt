@@ -21,7 +21,8 @@ use Rattle.n41_told.proofs.Ledgers.{NewLedger, SameLedger, held, new_moves}
 use Rattle.n41_moves.proofs.Moves.{PutsNew, puts_new, slot_is, itself}
 use Rattle.n41_moves.proofs.Puts.{PutOf, NewOn, ForCaller}
 use Rattle.n41_moves.proofs.Suits.{Suits, is_own, is_bare_class, own_change, plan_itself}
-use Rattle.n41_runs.specs.Effects.{CommandName, is_named, asked, command_on, last_of, change_of}
+use Rattle.n41_runs.specs.declared.commands.CommandName.{CommandName}
+use Rattle.n41_runs.specs.Effects.{is_named, asked, command_on, last_of, change_of}
 
 -- ---- names of commands
 
