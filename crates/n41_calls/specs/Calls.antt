@@ -26,7 +26,7 @@ use Rattle.n41_model.specs.declared.words.Verdict.TheVariants as v
 use Rattle.n41_model.specs.Replies.{is_ok, is_final}
 use Rattle.n41_model.specs.Requests.{request, outs, out, begun, knows, is_on, moment, verdict, slot_number}
 use Rattle.n41_model.specs.Sessions.{phase, passed, plan_of, session, sessions, slots}
-use Rattle.n41_calls.specs.Walks.{Seen, Sight, label_of, new_label, way_of, walked, next_plan, is_plan, is_keep, owner_text}
+use Rattle.n41_calls.specs.Walks.{Seen, Sight, opener, label_of, new_label, way_of, walked, next_plan, is_plan, is_keep, owner_text}
 use Rattle.n41_calls.specs.Values.{answer_in, reached_in, listed_after, listing_in, is_again, is_close, is_outdated}
 use Rattle.n41_calls.specs.Files.{Files, no_files, seen_at, is_alone, files_after, files_or, marked_at, forgotten_at}
 
@@ -173,12 +173,12 @@ open_out js o p = opens_from js o p 0 (slots js)
 
 -- a close waits for the opens of its owner that were out when it was told that its stateid is outdated
 abbrev pub awaits : List Event → Option Stale → Option Seen → Bool
-awaits js (Some t) (Some s) = open_out js s.owner t.place
+awaits js (Some t) (Some s) = open_out js (opener s) t.place
 awaits js t s = false
 
 abbrev pub owner_seen : Option Seen → List ℕ
 owner_seen None = []
-owner_seen (Some s) = s.owner
+owner_seen (Some s) = opener s
 
 -- what a close that is told so now goes by
 abbrev pub stale_now : List Event → Option Seen → Stale

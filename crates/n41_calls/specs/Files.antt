@@ -36,8 +36,7 @@ no_files = record { opened = 0; opens = record { handles = []; records = [] } }
 -- ---- what a command sees of its handle
 
 abbrev pub seen_of : Option Open → Option Shrink → Option Seen
-seen_of (Some o) (Some c) =
-    Some (record { fh = o.id.key.fh; mode = o.mode; owner = o.id.key.owner; current = record { seqid = 0; other = o.id.other }; shrink = c })
+seen_of (Some o) (Some c) = Some (record { handle = o; shrink = c })
 seen_of o c = None
 
 abbrev pub seen_at : Table → Option ℕ → Option Seen

@@ -14,6 +14,7 @@ use Rattle.n41_types.specs.contracts.plans.PlanPartialEq.TheImpl as plans
 use Rattle.n41_results.specs.declared.sessions.SessionMade.{SessionMade}
 use Rattle.n41_opens.specs.declared.answers.Shrink.{Shrink}
 use Rattle.n41_opens.specs.declared.answers.Shrink.TheVariants.{Keep, Downgrade, Close}
+use Rattle.n41_opens.specs.declared.handles.Open.{Open}
 use Rattle.n41_model.specs.declared.words.Listed.{Listed}
 use Rattle.n41_model.specs.declared.words.Stale.{Stale}
 use Rattle.n41_model.specs.declared.words.Way.{Way}
@@ -108,13 +109,21 @@ walked k n fh w = turned k (record w { at = At fh; walked = min (w.walked + n) (
 
 -- ---- goals
 
--- what a command sees of its handle
+-- what a command sees of its handle: how it is open, and what its close needs
 pub record Seen : Type 0 where
-  pub fh : List ℕ  -- its file
-  pub mode : Mode  -- as it was opened
-  pub owner : List ℕ  -- by which it was opened
-  pub current : Stateid  -- for reading and writing: seqid 0, the state as it then is (RFC 8881, section 8.2.2)
-  pub shrink : Shrink  -- what its close needs
+  pub handle : Open
+  pub shrink : Shrink
+
+abbrev pub file : Seen → List ℕ
+file h = h.handle.id.key.fh
+
+-- the owner by which it was opened
+abbrev pub opener : Seen → List ℕ
+opener h = h.handle.id.key.owner
+
+-- the stateid for reading and writing: seqid 0 names the state as it then is (RFC 8881, section 8.2.2)
+abbrev pub current : Seen → Stateid
+current h = record { seqid = 0; other = h.handle.id.other }
 
 -- what a command sees
 pub record Sight : Type 0 where
@@ -177,25 +186,25 @@ list size at (Some l) = Some (plan.List at l.cookie l.verifier size)
 
 abbrev pub read : ℕ → Option Seen → ℕ → ℕ → Option Plan
 read most None o n = None
-read most (Some h) o n = Some (plan.Read h.fh h.current o (min n most))
+read most (Some h) o n = Some (plan.Read (file h) (current h) o (min n most))
 
 abbrev pub write : ℕ → Option Seen → ℕ → List ℕ → Option Plan
 write most None o b = None
-write most (Some h) o b = Some (plan.WriteBytes h.fh h.current o (take most b))
+write most (Some h) o b = Some (plan.WriteBytes (file h) (current h) o (take most b))
 
 abbrev pub resize : Option Seen → ℕ → Option Plan
 resize None z = None
-resize (Some h) z = Some (plan.Resize h.fh h.current z)
+resize (Some h) z = Some (plan.Resize (file h) (current h) z)
 
 -- What a close needs: nothing where other handles need the same modes.
 abbrev pub shrinks : Seen → Shrink → Option Plan
 shrinks h Keep = None
-shrinks h (Downgrade m s) = Some (plan.Downgrade h.fh s m)
-shrinks h (Close s) = Some (plan.CloseState h.fh s)
+shrinks h (Downgrade m s) = Some (plan.Downgrade (file h) s m)
+shrinks h (Close s) = Some (plan.CloseState (file h) s)
 
 -- An open of what is open already tells its seqid.
 abbrev pub refresh : Seen → Plan
-refresh h = plan.OpenAt h.fh h.mode h.owner claim.Fh
+refresh h = plan.OpenAt (file h) h.handle.mode (opener h) claim.Fh
 
 abbrev pub is_keep : Shrink → Bool
 is_keep Keep = true

@@ -16,7 +16,7 @@ use Rattle.n41_model.specs.Requests.{out, doubt, rounds}
 use Rattle.n41_calls.specs.Text.{answer_to}
 use Rattle.n41_types.specs.declared.spans.Mode.{Mode}
 use Rattle.n41_opens.specs.Opens.{open_of, is_marked}
-use Rattle.n41_calls.specs.Walks.{Seen}
+use Rattle.n41_calls.specs.Walks.{Seen, file, opener}
 use Rattle.n41_calls.specs.Files.{seen_at}
 use Rattle.n41_calls.specs.Calls.{files}
 use Rattle.n41_runs.specs.Records.{OpenRecord, open_record, same_bytes, covers}
@@ -63,7 +63,7 @@ is_on_record (Some x) o m = same_bytes x.other o && covers x.modes m
 
 abbrev pub IsOnRecord : List Step → Option Seen → Type 0
 IsOnRecord w None = Unit {0}
-IsOnRecord w (Some s) = is_on_record (open_record w s.owner s.fh) s.current.other s.mode ≡ true
+IsOnRecord w (Some s) = is_on_record (open_record w (opener s) (file s)) s.handle.id.other s.handle.mode ≡ true
 
 abbrev pub StateKept : ℕ → List Step → Type 0
 StateKept n w = (h : ℕ) → is_marked (open_of (files n (client w)).opens.handles h) ≡ false → IsOnRecord w (seen_at (files n (client w)).opens (Some h))

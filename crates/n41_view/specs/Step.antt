@@ -18,9 +18,9 @@ use Rattle.n41_model.specs.declared.words.Verdict.{Verdict}
 use Rattle.n41_model.specs.Replies.{is_final, gives_back, sequence_status, verdict_of, bare_verdict_of}
 use Rattle.n41_model.specs.Requests.{is_bare, is_on, turn_of, has_xid, knows, session_in, sent_after, is_waiting, slot_number}
 use Rattle.n41_model.specs.Sessions.{client_after, session_after, slots_after, bound_after, unbound_after, completed_after, completed_by, dialed_phase, broke_phase, worked, bare_phase, slot_phase, is_step_of, is_bare_delay, is_refused_complete, target_after}
-use Rattle.n41_calls.specs.Walks.{Seen, Sight, next_plan, is_plan, owner_text}
+use Rattle.n41_calls.specs.Walks.{Seen, Sight, opener, next_plan, is_plan, owner_text}
 use Rattle.n41_calls.specs.Files.{Files, seen_at, is_alone, files_after, files_or}
-use Rattle.n41_calls.specs.Calls.{Call, Hour, fresh_call, put_call, took_call, answered_call, is_open_by, is_ready_call, is_caller, in_running, began_files, answered_files}
+use Rattle.n41_calls.specs.Calls.{Call, Hour, owner_seen, fresh_call, put_call, took_call, answered_call, is_open_by, is_ready_call, is_caller, in_running, began_files, answered_files}
 use Rattle.n41_calls.specs.Answers.{breaks, place_or}
 use Rattle.n41_view.specs.View.{View}
 use Rattle.n41_view.specs.declared.tables.Facts.{Facts}
@@ -92,7 +92,7 @@ open_held o p [] = false
 open_held o p (s ∷ ss) = held_opens o p s.held || open_held o p ss
 
 abbrev pub seat_awaits : List Slot → Option Stale → Option Seen → Bool
-seat_awaits ss (Some t) (Some h) = open_held h.owner t.place ss
+seat_awaits ss (Some t) (Some h) = open_held (opener h) t.place ss
 seat_awaits ss t h = false
 
 -- what a caller of this user sees
@@ -381,12 +381,8 @@ abbrev pub put_seat : Option ℕ → Seat → Seat
 put_seat o s = if is_caller o s.caller then with_call s (put_call (call_of s)) else s
 
 -- what a close goes by that is told now that its stateid is outdated
-abbrev pub owner_of : Option Seen → List ℕ
-owner_of None = []
-owner_of (Some h) = h.owner
-
 abbrev pub seat_stale : View → Seat → Stale
-seat_stale w s = record { place = suc w.facts.events; alone = not (open_held (owner_of (seat_seen w.files s)) w.facts.events w.slots) }
+seat_stale w s = record { place = suc w.facts.events; alone = not (open_held (owner_seen (seat_seen w.files s)) w.facts.events w.slots) }
 
 abbrev pub seat_hour : View → Seat → Hour
 seat_hour w s =
