@@ -168,18 +168,13 @@ said w y = said_of w.bare (held_with w.slots y.xid) y
 
 -- ---- handles
 
--- the seat of a caller, of these
-abbrev pub seat_with : List Seat → ℕ → Option Seat
-seat_with [] c = None
-seat_with (s ∷ ss) c = if s.caller == c then Some s else seat_with ss c
-
 abbrev pub seat_told : Said → Reply → Files → Option Seat → Option Files
 seat_told a y f None = Some f
 seat_told a y f (Some s) = if s.busy then files_after s.command s.way a.plan a.slot y f else Some f
 
 abbrev pub told_by : View → Said → Reply → Option ℕ → Option Files
 told_by w a y None = Some w.files
-told_by w a y (Some c) = seat_told a y w.files (seat_with w.seats c)
+told_by w a y (Some c) = seat_told a y w.files (slice_get w.seats c)
 
 -- what a reply does to the handles: None where no server that keeps the rules answers so
 abbrev pub told_files : View → Reply → Option Files
@@ -194,9 +189,9 @@ seat_answered a f None = f
 seat_answered a f (Some s) = answered_files s.command a s.way f
 
 abbrev pub files_step : View → Event → Files → Files
-files_step w (Began d n k m) f = seat_began k f (seat_with w.seats d)
+files_step w (Began d n k m) f = seat_began k f (slice_get w.seats d)
 files_step w (Took c p y) f = files_or f (told_files w y)
-files_step w (Answered d n a) f = seat_answered a f (seat_with w.seats d)
+files_step w (Answered d n a) f = seat_answered a f (slice_get w.seats d)
 files_step w e f = f
 
 -- ---- facts
