@@ -70,7 +70,7 @@ import os, resource, subprocess, sys
 place, given, words = sys.argv[1], sys.argv[2], sys.argv[3:]
 with open(given, "rb") as stdin, open(place + ".out", "wb") as out, open(place + ".err", "wb") as err:
     try:
-        status = subprocess.run(words, stdin=stdin, stdout=out, stderr=err, timeout=80).returncode
+        status = subprocess.run(words, stdin=stdin, stdout=out, stderr=err, timeout=300).returncode
     except subprocess.TimeoutExpired:
         status = "no end"
 most = resource.getrusage(resource.RUSAGE_CHILDREN).ru_maxrss
