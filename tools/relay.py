@@ -54,11 +54,19 @@ def shut(*ends):
             pass
 
 
+def send(server, piece):
+    try:
+        server.sendall(piece)
+    except OSError:
+        pass
+
+
 def to_server(client, server):
+    """Reads on where the server is cut off: what was passed on before can still be read by the client."""
     try:
         while piece := client.recv(65536):
             keep("client", piece)
-            server.sendall(piece)
+            send(server, piece)
     except OSError:
         pass
     shut(client, server)
@@ -75,7 +83,11 @@ def to_client(client, server):
             client.sendall(head + body)
     except OSError:
         pass
-    shut(client, server)
+    shut(server)
+    try:
+        client.shutdown(socket.SHUT_WR)
+    except OSError:
+        pass
 
 
 def serve(listener):
