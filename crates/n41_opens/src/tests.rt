@@ -44,14 +44,17 @@ fn apply(opens: &mut Opens, handle: u64, other: u8, seqid: u32) -> bool {
 }
 
 /// What the closes of three handles send, of which two have records under one key with two "other", and what a third open is told.
-fn two_others(opens: &mut Opens, alloc: Global) -> Option<(Option<Shrink>, Option<Shrink>, u32)> {
+fn two_others(
+    opens: &mut Opens,
+    alloc: Global,
+) -> Option<(Option<Shrink>, Option<Shrink>, [u32; 3])> {
     let first = attach(opens, alloc, 1, 7, 1, Mode::Read)?;
     let second = attach(opens, alloc, 2, 8, 1, Mode::Read)?;
     let third = attach(opens, alloc, 3, 8, 1, Mode::Read)?;
     Some((
         opens.shrink_of(1),
         opens.shrink_of(2),
-        first + second + third,
+        [first, second, third],
     ))
 }
 
@@ -64,7 +67,7 @@ fn an_other_is_a_record(rt: HostRuntime) {
         Some((
             Some(Shrink::Close(stateid(7, 1))),
             Some(Shrink::Close(stateid(8, 1))),
-            1
+            [0, 0, 1]
         ))
     );
 }
