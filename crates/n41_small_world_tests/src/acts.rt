@@ -249,20 +249,45 @@ fn first_result(alloc: Global, asks: Asks, request: &Request) -> Result<Res, NoM
     })
 }
 
+/// All results of a request that is served.
+fn add_done(
+    alloc: Global,
+    list: &mut Vec<Res>,
+    request: &Request,
+    asks: Asks,
+    after: u64,
+) -> Result<(), NoMemory> {
+    list.push(first_result(alloc, asks, request)?)?;
+    add_results(alloc, list, asks, after)
+}
+
+/// The reply to a request that is served.
+fn done_reply(alloc: Global, request: &Request, asks: Asks, after: u64) -> Result<Reply, NoMemory> {
+    let mut list = Vec::new(alloc);
+    add_done(alloc, &mut list, request, asks, after)?;
+    reply(alloc, request, Status::OK, list)
+}
+
+/// The reply to a request that SEQUENCE refuses.
+fn refused_reply(alloc: Global, request: &Request, status: Status) -> Result<Reply, NoMemory> {
+    let mut list = Vec::new(alloc);
+    list.push(Res::Sequence(Err(status)))?;
+    reply(alloc, request, status, list)
+}
+
+/// The reply to this request.
+fn reply_to(alloc: Global, request: &Request, asks: Asks, gets: Gets) -> Result<Reply, NoMemory> {
+    match gets {
+        Gets::Done => done_reply(alloc, request, asks, 1),
+        Gets::Other => done_reply(alloc, request, asks, 2),
+        Gets::Refused(status) => refused_reply(alloc, request, status),
+    }
+}
+
 /// The reply to a request.
 fn answered(alloc: Global, asks: Asks, gets: Gets) -> Result<Reply, NoMemory> {
     let request = asked(alloc, asks)?;
-    let mut list = Vec::new(alloc);
-    let (first, after, status) = match gets {
-        Gets::Done => (first_result(alloc, asks, &request)?, 1, Status::OK),
-        Gets::Other => (first_result(alloc, asks, &request)?, 2, Status::OK),
-        Gets::Refused(status) => (Res::Sequence(Err(status)), 0, status),
-    };
-    list.push(first)?;
-    if status == Status::OK {
-        add_results(alloc, &mut list, asks, after)?;
-    }
-    reply(alloc, &request, status, list)
+    reply_to(alloc, &request, asks, gets)
 }
 
 /// The step in which a server serves a request.
