@@ -1,7 +1,6 @@
 -- An open's answer: a record is made ready, a handle joins it, and leaves the one that it had.
-use Rattle.std.proofs.Common.{◌≡◌, ℕ, ◌+◌, ◌-◌, ◌<◌, ◌≤◌, ◌^◌, Bool, true, false, cond, if◌then◌else◌, List, [], ◌∷◌, length, filter, Option, None, Some, IsSome, Result, Ok, Err, refl, sym, ◌∙◌, ap, subst, arith}
+use Rattle.std.proofs.Common.{◌≡◌, ℕ, ◌+◌, ◌-◌, ◌<◌, ◌^◌, Bool, true, false, cond, List, length, filter, Option, None, Some, IsSome, Err, refl, sym, ◌∙◌, ap, subst, arith}
 use Rattle.std.specs.Ordering.{nat_cmp}
-use Rattle.std.specs.Prelude.{⊤}
 use Rattle.std.specs.Map.{lookup, remove_entry, set_value, keys_of}
 use Rattle.std.specs.BTreeMap.{insert_entry}
 use Rattle.std.specs.List.Sorted.{IsStrictlySortedBy}
@@ -14,10 +13,10 @@ use Rattle.n41_opens.specs.declared.handles.Open.{Open}
 use Rattle.n41_opens.specs.declared.modes.Tally.{Tally}
 use Rattle.n41_opens.specs.declared.records.Record.{Record}
 use Rattle.n41_opens.specs.Ids.{id_cmp, is_id, id_total}
-use Rattle.n41_opens.specs.Opens.{Told, Table, heard, told_of, telling, has, is_number, open_of, is_marked, seated, without, attached, attach_in, AttachGives}
+use Rattle.n41_opens.specs.Opens.{Told, Table, heard, told_of, telling, has, open_of, is_marked, seated, attached, attach_in, AttachGives}
 use Rattle.n41_opens.specs.Inside.{nothing, amount, more, union_of, told_in, told_by, seen, tally_by, tally_in, count, IsCounted, IsReady, Readies, Hears, Joins, CanJoin, ReadyGives, discarded, discarded_by, left}
 use Rattle.n41_opens.proofs.Lists.{set_after_insert, remove_after_insert, through_insert}
-use Rattle.n41_opens.proofs.Counts.{laws, id_exact, lookup_set, Tallied, Joined, joins, leaves, whole, settled, counts_are, tallied_of, new_count, moved_count, part, count_most}
+use Rattle.n41_opens.proofs.Counts.{laws, id_exact, lookup_set, Joined, joins, leaves, whole, settled, counts_are, tallied_of, new_count, moved_count, part, count_most}
 use Rattle.n41_opens.proofs.Steps.{told_seen}
 
 some_is : {A : Type 0} (x y : A) → Some x ≡ Some y → x ≡ y

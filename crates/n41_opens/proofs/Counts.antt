@@ -1,16 +1,16 @@
 -- The records count the handles: what a handle that joins or leaves does to the counts, and to what is seen.
-use Rattle.std.proofs.Common.{◌≡◌, ℕ, zero, suc, ◌+◌, ◌-◌, ◌<◌, ◌≤◌, Bool, true, false, cond, ◌&&◌, if◌then◌else◌, List, [], ◌∷◌, length, filter, Option, None, Some, IsSome, option_map, unwrap_or, refl, sym, ◌∙◌, ap, subst, arith}
+use Rattle.std.proofs.Common.{◌≡◌, ℕ, ◌+◌, ◌-◌, ◌≤◌, Bool, true, false, cond, ◌&&◌, List, [], ◌∷◌, length, filter, Option, None, Some, IsSome, option_map, unwrap_or, refl, sym, ◌∙◌, ap, subst, arith}
 use Rattle.std.specs.declared.cmp.Ordering.{Ordering}
 use Rattle.std.specs.declared.cmp.Ordering.TheVariants.{Less, Equal, Greater}
 use Rattle.std.specs.Ordering.{nat_cmp, is_eq, ordering_then}
 use Rattle.std.specs.Cmp.{IsEquivalence, eq_by_cmp_equiv, nat_cmp_total}
-use Rattle.std.specs.Map.{lookup, remove_entry, set_value, keys_of, values_of}
+use Rattle.std.specs.Map.{lookup, remove_entry, set_value, keys_of}
 use Rattle.std.specs.BTreeMap.{insert_entry}
 use Rattle.std.specs.List.Sorted.{IsStrictlySortedBy}
 use Rattle.std.proofs.lemmas.Map.{lookup-set_value, lookup-remove_entry}
 use Rattle.std.proofs.lemmas.Map.Steps.{set_value_same}
 use Rattle.std.proofs.lemmas.Map.Keys.{IsDistinct-from_sorted}
-use Rattle.std.proofs.lemmas.Map.Entries.{sum_by-insert_entry, sum_by-remove_entry, sum_by-set_value}
+use Rattle.std.proofs.lemmas.Map.Entries.{sum_by-insert_entry, sum_by-remove_entry}
 use Rattle.std.proofs.lemmas.Map.Lookups.{exact_bytes}
 use Rattle.n41_types.specs.declared.spans.Mode.{Mode}
 use Rattle.n41_opens.specs.declared.ids.RecordKey.{RecordKey}
@@ -21,7 +21,7 @@ use Rattle.n41_opens.specs.declared.records.Record.{Record}
 use Rattle.n41_opens.specs.Ids.{key_cmp, id_cmp, is_id, id_total}
 use Rattle.n41_opens.specs.Modes.{union}
 use Rattle.n41_opens.specs.Opens.{Told, is_number, has, modes, without}
-use Rattle.n41_opens.specs.Inside.{nothing, amount, more, fewer, union_of, is_mode, weight, count, told_in, seen, tally_by, tally_in, IsCounted, IsReady, Hears, lessened_by, left_by, left}
+use Rattle.n41_opens.specs.Inside.{amount, more, fewer, union_of, is_mode, weight, count, told_in, seen, tally_by, tally_in, IsCounted, lessened_by, left_by, left}
 use Rattle.n41_opens.proofs.Lists.{keep_all, drop_one, through_set, through_remove, through_lookup}
 use Rattle.n41_opens.proofs.Tallies.{one, amount_nothing, amount_more, amount_fewer, union_some, union_none, none_union, union_counted, has_none, none_has, count_cons}
 

@@ -1,8 +1,7 @@
 -- What the steps on records give.
-use Rattle.std.proofs.Common.{◌≡◌, ℕ, ◌+◌, ◌≤◌, Bool, true, false, cond, if◌then◌else◌, List, [], ◌∷◌, Option, None, Some, IsSome, Result, Ok, Err, IfOk, OnErr, is_some, not, option_map, unwrap_or, refl, sym, ◌∙◌, ap, subst}
+use Rattle.std.proofs.Common.{◌≡◌, ℕ, Bool, true, false, List, [], ◌∷◌, Option, None, Some, Result, Ok, Err, IfOk, OnErr, is_some, not, option_map, unwrap_or, refl, sym, ◌∙◌, ap, subst}
 use Rattle.std.specs.Prelude.{⊤}
 use Rattle.std.specs.Map.{lookup, remove_entry, set_value, keys_of}
-use Rattle.std.specs.BTreeMap.{insert_entry}
 use Rattle.std.specs.List.Sorted.{IsStrictlySortedBy}
 use Rattle.std.proofs.lemmas.Map.Steps.{set_value_same}
 use Rattle.n41_types.specs.declared.identities.Stateid.{Stateid}
@@ -13,8 +12,8 @@ use Rattle.n41_opens.specs.declared.answers.AttachFault.{AttachFault}
 use Rattle.n41_opens.specs.declared.answers.AttachFault.TheVariants.{Seq, NoMemory}
 use Rattle.n41_opens.specs.declared.records.Record.{Record}
 use Rattle.n41_opens.specs.Ids.{id_cmp, is_id, id_total}
-use Rattle.n41_opens.specs.Opens.{Told, is_change, heard, untold, told_of}
-use Rattle.n41_opens.specs.Inside.{more, fewer, left, left_by, lessened_by, union_of, told_in, told_by, seen, tally_by, tally_in, IsReady, Readies, Hears, Joins, Changes, ReadyGives, WidenGives, HearGives, TellGives, discarded, discarded_by}
+use Rattle.n41_opens.specs.Opens.{is_change, heard, untold, told_of}
+use Rattle.n41_opens.specs.Inside.{more, fewer, left, left_by, lessened_by, union_of, told_in, told_by, seen, tally_by, Joins, ReadyGives, WidenGives, HearGives, TellGives, discarded, discarded_by}
 use Rattle.n41_opens.proofs.Lists.{set_is_insert, through_set, through_lookup}
 use Rattle.n41_opens.proofs.Counts.{lookup_set}
 

@@ -1,6 +1,6 @@
 -- What the calls on one handle give, by what is inside.
-use Rattle.std.proofs.Common.{◌≡◌, ℕ, ◌+◌, ◌-◌, ◌≤◌, Bool, true, false, cond, if◌then◌else◌, List, [], ◌∷◌, filter, Option, None, Some, IsSome, is_some, Result, Ok, Err, IfOk, OnOk, OnErr, option_map, unwrap_or, refl, sym, ◌∙◌, ap, subst, arith}
-use Rattle.std.specs.Map.{lookup, remove_entry, set_value, keys_of, values_of}
+use Rattle.std.proofs.Common.{◌≡◌, ℕ, ◌+◌, ◌≤◌, Bool, true, false, List, Option, None, Some, IsSome, is_some, Result, Ok, Err, IfOk, OnOk, OnErr, option_map, unwrap_or, refl, sym, ◌∙◌, ap, subst, arith}
+use Rattle.std.specs.Map.{lookup, set_value, keys_of}
 use Rattle.std.specs.BTreeMap.{insert_entry}
 use Rattle.std.specs.List.Sorted.{IsStrictlySortedBy}
 use Rattle.std.proofs.lemmas.Map.Entries.{sum_by-remove_entry, sum_by-set_value}
@@ -11,10 +11,10 @@ use Rattle.n41_opens.specs.declared.handles.Open.{Open}
 use Rattle.n41_opens.specs.declared.records.Record.{Record}
 use Rattle.n41_opens.specs.declared.modes.Tally.{Tally}
 use Rattle.n41_opens.specs.Ids.{id_cmp, is_id, id_total}
-use Rattle.n41_opens.specs.Opens.{Told, Table, is_change, heard, untold, told_of, seqid_of, telling, has, is_number, open_of, without, forgotten, need_at, stateid_at, changed_by, changed_in}
-use Rattle.n41_opens.specs.Inside.{nothing, amount, fewer, union_of, is_mode, weight, count, told_in, told_by, seen, tally_by, tally_in, IsCounted, Hears, Changes, HearGives, left}
+use Rattle.n41_opens.specs.Opens.{Told, is_change, heard, told_of, seqid_of, telling, is_number, open_of, without, forgotten, need_at, stateid_at, changed_by, changed_in}
+use Rattle.n41_opens.specs.Inside.{amount, fewer, union_of, weight, count, told_in, told_by, seen, tally_by, tally_in, IsCounted, Hears, Changes, HearGives, left}
 use Rattle.n41_opens.proofs.Lists.{set_is_insert, through_insert}
-use Rattle.n41_opens.proofs.Tallies.{one, amount_nothing, is_mode_itself}
+use Rattle.n41_opens.proofs.Tallies.{amount_nothing, is_mode_itself}
 use Rattle.n41_opens.proofs.Counts.{laws, id_exact, lookup_set, leaves, whole, settled, counts_are, tallied_of, gone_count, others_need}
 use Rattle.n41_opens.proofs.Steps.{told_seen, remove_absent}
 

@@ -1,4 +1,4 @@
-use Rattle.std.proofs.Common.{◌≡◌, Some, sym, ◌∙◌, ap}
+use Rattle.std.proofs.Common.{sym, ◌∙◌, ap}
 use Rattle.std.specs.Option.{option_copied_mut}
 use Rattle.n41_opens.proofs.Steps.{change_ok, change_err}
 use Rattle.n41_opens.proofs.records.change.Goals as goal

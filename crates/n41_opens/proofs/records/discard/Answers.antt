@@ -1,4 +1,4 @@
-use Rattle.std.proofs.Common.{◌≡◌, sym, ◌∙◌, ap, option_copied}
+use Rattle.std.proofs.Common.{sym, ◌∙◌, ap, option_copied}
 use Rattle.n41_opens.proofs.Steps.{discard_absent}
 use Rattle.n41_opens.proofs.records.discard.Goals as goal
 

@@ -1,6 +1,5 @@
-use Rattle.std.proofs.Common.{◌≡◌, Option, Some, is_none, true, sym, ◌∙◌, ap}
+use Rattle.std.proofs.Common.{sym, ◌∙◌, ap}
 use Rattle.std.specs.Option.{option_copied_mut}
-use Rattle.n41_types.specs.declared.spans.Mode.{Mode}
 use Rattle.n41_opens.specs.declared.modes.Tally.{Tally}
 use Rattle.n41_opens.specs.declared.records.Record.{Record}
 use Rattle.n41_opens.specs.Inside.{union_of}

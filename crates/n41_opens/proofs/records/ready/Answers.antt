@@ -1,4 +1,4 @@
-use Rattle.std.proofs.Common.{◌≡◌, Some, sym, ◌∙◌, ap}
+use Rattle.std.proofs.Common.{sym, ◌∙◌, ap}
 use Rattle.std.specs.Option.{option_copied_mut}
 use Rattle.n41_opens.proofs.Steps.{ready_by}
 use Rattle.n41_opens.proofs.records.ready.Goals as goal

@@ -1,4 +1,4 @@
-use Rattle.std.proofs.Common.{◌≡◌, Option, Some, option_map, sym, ◌∙◌, ap}
+use Rattle.std.proofs.Common.{option_map, sym, ◌∙◌, ap}
 use Rattle.n41_opens.specs.Opens.{told_row}
 use Rattle.n41_opens.proofs.After.{after_some, after_none}
 use Rattle.n41_opens.proofs.opens.Opens.after.Goals as goal

@@ -1,9 +1,8 @@
-use Rattle.std.proofs.Common.{rules, ◌≡◌, ℕ, List, Option, Some, Result, Ok, Err, sym, ◌∙◌, subst, ap}
+use Rattle.std.proofs.Common.{rules, ◌≡◌, Result, Err, sym, ◌∙◌, subst, ap}
 use Rattle.std.specs.Prelude.{⊤}
 use Rattle.n41_opens.specs.declared.ids.RecordId.{RecordId}
 use Rattle.n41_opens.specs.declared.answers.AttachFault.{AttachFault}
-use Rattle.n41_opens.specs.declared.handles.Open.{Open}
-use Rattle.n41_opens.specs.Opens.{Table, AttachGives, seated, open_of}
+use Rattle.n41_opens.specs.Opens.{Table, AttachGives, seated}
 use Rattle.n41_opens.specs.Inside.{Readies, ReadyGives, seen}
 use Rattle.n41_opens.proofs.Attach.{refuse_ready, unseated_counted, unseated, can_join, seated_new, seated_moved, accepted}
 use Rattle.n41_opens.proofs.opens.Opens.attach.Goals as goal

@@ -1,4 +1,4 @@
-use Rattle.std.proofs.Common.{◌≡◌, sym, ◌∙◌, ap, option_copied}
+use Rattle.std.proofs.Common.{sym, ◌∙◌, ap, option_copied}
 use Rattle.n41_opens.proofs.Tables.{is_there, changed_counted, changed_value, changed_table}
 use Rattle.n41_opens.proofs.opens.Opens.changed.Goals as goal
 

@@ -1,4 +1,4 @@
-use Rattle.std.proofs.Common.{◌≡◌, sym, ◌∙◌}
+use Rattle.std.proofs.Common.{sym, ◌∙◌}
 use Rattle.n41_opens.proofs.Tables.{forget_none, forget_counted, forget_some}
 use Rattle.n41_opens.proofs.opens.Opens.forget.Goals as goal
 

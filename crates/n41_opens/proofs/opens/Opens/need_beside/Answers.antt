@@ -1,4 +1,4 @@
-use Rattle.std.proofs.Common.{◌≡◌, sym, ◌∙◌, ap, option_copied}
+use Rattle.std.proofs.Common.{sym, ◌∙◌, ap, option_copied}
 use Rattle.n41_opens.proofs.Tables.{need_is}
 use Rattle.n41_opens.proofs.opens.Opens.need_beside.Goals as goal
 
