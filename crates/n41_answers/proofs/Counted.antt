@@ -7,8 +7,8 @@ use Rattle.n41_types.specs.declared.commands.Command.{Command}
 use Rattle.n41_journal.specs.declared.events.Event.{Event}
 use Rattle.n41_journal.specs.declared.events.Event.TheVariants.{Began, Answered}
 use Rattle.n41_model.specs.declared.words.Setup.{Setup}
-use Rattle.n41_model.specs.Calls.{command, number}
-use Rattle.n41_model.specs.Kept.{Kept, May, MayBegin, MayAnswer}
+use Rattle.n41_calls.specs.Calls.{command, number}
+use Rattle.n41_calls.specs.Kept.{Kept, May, MayBegin, MayAnswer}
 use Rattle.n41_answers.specs.Answers.{places, begun, down_from}
 
 -- a command that is unanswered, as a number

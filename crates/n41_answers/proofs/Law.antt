@@ -9,9 +9,9 @@ use Rattle.n41_journal.specs.declared.events.Event.{Event}
 use Rattle.n41_journal.specs.declared.events.Event.TheVariants.{Answered}
 use Rattle.n41_types.specs.declared.commands.Command.{Command}
 use Rattle.n41_model.specs.declared.words.Setup.{Setup}
-use Rattle.n41_model.specs.Calls.{command, number}
-use Rattle.n41_model.specs.Kept.{Kept}
-use Rattle.n41_model.specs.Text.{answer_to}
+use Rattle.n41_calls.specs.Calls.{command, number}
+use Rattle.n41_calls.specs.Kept.{Kept}
+use Rattle.n41_calls.specs.Text.{answer_to}
 use Rattle.n41_answers.specs.Answers.{HasAnswer, places, lists, lists_from, noted, numbered, place_in, answer_in}
 use Rattle.n41_answers.specs.Indexed.{Indexes}
 use Rattle.n41_answers.specs.Laws.{IsPlaced, PlacesAnswer, AnswersArePlaced, AnswersOnce, AnswerIsPlaced, ListsStep, BegunInOrder, EarlierAreAnswered, IdleAreAnswered}

@@ -6,8 +6,8 @@ use Rattle.n41_journal.specs.Journal.{event_at}
 use Rattle.n41_journal.specs.declared.events.Event.{Event}
 use Rattle.n41_journal.specs.declared.events.Event.TheVariants.{Answered}
 use Rattle.n41_model.specs.declared.words.Setup.{Setup}
-use Rattle.n41_model.specs.Kept.{Kept, May, MayAnswer}
-use Rattle.n41_model.specs.Text.{answer_to}
+use Rattle.n41_calls.specs.Kept.{Kept, May, MayAnswer}
+use Rattle.n41_calls.specs.Text.{answer_to}
 use Rattle.n41_answers.specs.Answers.{HasAnswer, places}
 use Rattle.n41_answers.proofs.Counted.{Counted, counted, next_answer}
 use Rattle.n41_answers.proofs.Lookups.{end_of, split_place, place_stays, newest_place}

@@ -6,8 +6,8 @@ use Rattle.n41_journal.specs.declared.events.Event.{Event}
 use Rattle.n41_journal.specs.declared.events.Event.TheVariants.{Began, DialFailed, Answered}
 use Rattle.n41_model.specs.declared.words.Setup.{Setup}
 use Rattle.n41_model.specs.Requests.{standing}
-use Rattle.n41_model.specs.Answers.{UnknownCause}
-use Rattle.n41_model.specs.Kept.{Kept}
+use Rattle.n41_calls.specs.Answers.{UnknownCause}
+use Rattle.n41_calls.specs.Kept.{Kept}
 use Rattle.n41_answers.specs.Indexed.{Indexes}
 
 abbrev pub lone_caller : Setup

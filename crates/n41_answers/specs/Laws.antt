@@ -3,9 +3,9 @@ use Rattle.std.specs.Prelude.{◌≡◌, ◌↔◌, ℕ, suc, ◌-◌, ◌<◌, 
 use Rattle.n41_types.specs.declared.commands.Answer.{Answer}
 use Rattle.n41_journal.specs.declared.events.Event.{Event}
 use Rattle.n41_model.specs.declared.words.Setup.{Setup}
-use Rattle.n41_model.specs.Calls.{command, number}
-use Rattle.n41_model.specs.Kept.{Kept}
-use Rattle.n41_model.specs.Text.{answer_to}
+use Rattle.n41_calls.specs.Calls.{command, number}
+use Rattle.n41_calls.specs.Kept.{Kept}
+use Rattle.n41_calls.specs.Text.{answer_to}
 use Rattle.n41_answers.specs.Answers.{HasAnswer, places, lists, lists_after, begun, down_from}
 
 -- some answer to a caller's command of this number stands at this place

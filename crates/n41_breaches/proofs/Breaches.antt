@@ -10,11 +10,11 @@ use Rattle.n41_journal.specs.declared.events.Event.TheVariants.{Began, Put, Took
 use Rattle.n41_model.specs.declared.words.BareVerdict.{BareVerdict}
 use Rattle.n41_model.specs.declared.words.Setup.{Setup}
 use Rattle.n41_model.specs.declared.words.Verdict.{Verdict}
-use Rattle.n41_model.specs.Answers.{breaks, breach_at}
-use Rattle.n41_model.specs.Kept.{Kept}
+use Rattle.n41_calls.specs.Answers.{breaks, breach_at}
+use Rattle.n41_calls.specs.Kept.{Kept}
 use Rattle.n41_model.specs.Replies.{verdict_of, bare_verdict_of, is_breach}
 use Rattle.n41_model.specs.Requests.{bares, retried, verdict, verdict_in, verdict_on, bare_verdict}
-use Rattle.n41_model.proofs.Slots.{seats}
+use Rattle.n41_calls.proofs.Slots.{seats}
 use Rattle.n41_moves.proofs.Moves.{TakesOn, TakesBare, takes_is}
 use Rattle.n41_moves.proofs.Said.{last_put}
 use Rattle.n41_moves.proofs.Single.{Single, single, given}

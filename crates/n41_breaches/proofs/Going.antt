@@ -16,11 +16,11 @@ use Rattle.n41_model.specs.declared.words.BareVerdict.{BareVerdict}
 use Rattle.n41_model.specs.declared.words.BareVerdict.TheVariants as b
 use Rattle.n41_model.specs.declared.words.KnownClient.{KnownClient}
 use Rattle.n41_model.specs.declared.words.Setup.{Setup}
-use Rattle.n41_model.specs.Kept.{May}
+use Rattle.n41_calls.specs.Kept.{May}
 use Rattle.n41_model.specs.Replies.{bare_verdict_of, bare_body_verdict, is_delay, is_wide_enough, delayed_or_breach, exchange_verdict, create_verdict, bind_verdict, destroy_session_verdict}
 use Rattle.n41_model.specs.Requests.{bare, bare_waits, session_in, bare_verdict, is_bare, is_bare_use}
 use Rattle.n41_model.specs.Sessions.{client as client_id, client_after}
-use Rattle.n41_model.proofs.Slots.{Seats}
+use Rattle.n41_calls.proofs.Slots.{Seats}
 use Rattle.n41_moves.proofs.Bares.{is_exchange, is_create, may_be, may_be_so}
 use Rattle.n41_moves.proofs.Moves.{TakesOn, TakesBare}
 use Rattle.n41_moves.proofs.Single.{given, or_made, took_bares}

@@ -23,14 +23,14 @@ use Rattle.n41_model.specs.declared.words.Sent.TheVariants.{Waits}
 use Rattle.n41_model.specs.declared.words.Setup.{Setup}
 use Rattle.n41_model.specs.declared.words.Verdict.{Verdict}
 use Rattle.n41_model.specs.declared.words.Verdict.TheVariants as v
-use Rattle.n41_model.specs.Due.{is_session, may_step, bare_with, bare_request, item_due, with_plan, finishing, is_open, any_waits, waits_from, may_retry, may_own, may_begin, may_destroy, bare_due, on_free_slot, step_plan, phase_plan, bind_in, create_in, own_plan, destroy_plan, destroy_in, goes_again, any_own, is_running}
-use Rattle.n41_model.specs.Calls.{plan_next, is_ready}
-use Rattle.n41_model.specs.Kept.{Kept, May}
+use Rattle.n41_calls.specs.Due.{is_session, may_step, bare_with, bare_request, item_due, with_plan, finishing, is_open, any_waits, waits_from, may_retry, may_own, may_begin, may_destroy, bare_due, on_free_slot, step_plan, phase_plan, bind_in, create_in, own_plan, destroy_plan, destroy_in, goes_again, any_own, is_running}
+use Rattle.n41_calls.specs.Calls.{plan_next, is_ready}
+use Rattle.n41_calls.specs.Kept.{Kept, May}
 use Rattle.n41_model.specs.Replies.{sequence_status}
 use Rattle.n41_model.specs.Requests.{bares, bare, bare_waits, outs, out, sent, sent_after, bare_verdict, verdict, is_bare, is_bare_use, is_on, is_waiting, moment, first}
 use Rattle.n41_model.specs.Sessions.{session, client, client_after, slots, phase, phases, took_phase, slot_phase, bare_phase, worked, dialed_phase, broke_phase, plan_of, is_lease_time, is_empty, next_xid, passed, put_off, bound}
-use Rattle.n41_model.proofs.Slots.{Seats, seats}
-use Rattle.n41_model.proofs.Tests.{and_true, not_true, only_if_some}
+use Rattle.n41_calls.proofs.Slots.{Seats, seats}
+use Rattle.n41_calls.proofs.Tests.{and_true, not_true, only_if_some}
 use Rattle.n41_moves.proofs.Bares.{is_exchange, is_create, is_end}
 use Rattle.n41_moves.proofs.Moves.{puts_again, TakesBare, TakesIs, takes_is, took_sent, bare_took_sent, bare_on_none}
 use Rattle.n41_moves.proofs.Puts.{PutIs, AgainBare, NewBare, ByStep, ByEnd, put_of}

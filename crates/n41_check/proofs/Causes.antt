@@ -11,8 +11,8 @@ use Rattle.n41_types.specs.declared.plans.Request.{Request}
 use Rattle.n41_types.specs.Plans.{class_of}
 use Rattle.n41_journal.specs.declared.events.Event.{Event}
 use Rattle.n41_journal.specs.declared.events.Event.TheVariants.{Answered, Put, Took}
-use Rattle.n41_model.specs.Answers.{UnknownCause, UnreachableCause, round_limit}
-use Rattle.n41_model.specs.Calls.{call, command, given, is_caller, number, owner}
+use Rattle.n41_calls.specs.Answers.{UnknownCause, UnreachableCause, round_limit}
+use Rattle.n41_calls.specs.Calls.{call, command, given, is_caller, number, owner}
 use Rattle.n41_results.specs.declared.replies.Reply.{Reply}
 use Rattle.n41_model.specs.Requests.{doubt, out, outs, rounds}
 use Rattle.n41_view.specs.Causes.{given_in, is_changing}

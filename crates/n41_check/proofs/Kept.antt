@@ -10,13 +10,13 @@ use Rattle.n41_types.specs.declared.statuses.Status.{Status}
 use Rattle.n41_results.specs.declared.replies.Reply.{Reply}
 use Rattle.n41_journal.specs.declared.events.Event.{Event}
 use Rattle.n41_journal.specs.declared.events.Event.TheVariants.{Began, Put, Took, CbTook, CbPut, Dialed, DialFailed, Broke, Ticked, Answered, Quit}
-use Rattle.n41_model.specs.Answers.{HasCause}
-use Rattle.n41_model.specs.Kept.{Kept, May}
-use Rattle.n41_model.specs.OneOut.{IsOrderly, IsOrderlyOn}
+use Rattle.n41_calls.specs.Answers.{HasCause}
+use Rattle.n41_calls.specs.Kept.{Kept, May}
+use Rattle.n41_calls.specs.OneOut.{IsOrderly, IsOrderlyOn}
 use Rattle.n41_model.specs.Replies.{gives_back, is_final, sequence_status, status_passes, status_refuses}
 use Rattle.n41_model.specs.Requests.{has_xid, is_on, is_use_of, joined, knows, made, outs, turn_of, used, without}
 use Rattle.n41_model.specs.declared.words.Setup.{Setup}
-use Rattle.n41_model.proofs.Slots.{keeps_one_out}
+use Rattle.n41_calls.proofs.Slots.{keeps_one_out}
 use Rattle.n41_check.specs.Rules.{IsCaused, IsNext, IsSame, Keeps, KeptIsClean, callers, is_repeat, last_put}
 use Rattle.n41_check.specs.declared.rules.Rule.{Rule}
 use Rattle.n41_check.specs.declared.rules.Rule.TheVariants.{Slots, Retries, Turns, Causes, Answers}

@@ -8,7 +8,7 @@ use Rattle.n41_journal.specs.declared.events.Event.{Event}
 use Rattle.n41_journal.specs.declared.events.Event.TheVariants.{Put, Took, Dialed, Broke}
 use Rattle.n41_model.specs.Requests.{bare_verdict_on, moment, request, slot_number, verdict_in}
 use Rattle.n41_model.specs.Sessions.{phase, plan_in}
-use Rattle.n41_model.specs.Calls.{chosen, in_running, is_caller, is_new, ledger, owner_at, slot_in, took_call}
+use Rattle.n41_calls.specs.Calls.{chosen, in_running, is_caller, is_new, ledger, owner_at, slot_in, took_call}
 use Rattle.n41_view.specs.Step.{Said, call_of, with_call}
 use Rattle.n41_model.specs.declared.words.BareVerdict.{BareVerdict}
 use Rattle.n41_model.specs.declared.words.Verdict.{Verdict}

@@ -11,7 +11,7 @@ use Rattle.n41_journal.specs.declared.events.Event.{Event}
 use Rattle.n41_journal.specs.declared.events.Event.TheVariants.{Put, Took, Dialed, Broke}
 use Rattle.n41_model.specs.Replies.{is_final, gives_back, is_delay, is_not_bound, sequence_status}
 use Rattle.n41_model.specs.Requests.{first, has_xid, is_on, is_use_of, is_waiting, joined, knows, made, moment, out, outs, sent, sent_after, slot_number, turn_of, used, without}
-use Rattle.n41_model.specs.Calls.{is_new, in_running, chosen, ledger, owner}
+use Rattle.n41_calls.specs.Calls.{is_new, in_running, chosen, ledger, owner}
 use Rattle.n41_model.specs.Sessions.{phase}
 use Rattle.n41_check.specs.Asked.{IsOwner}
 use Rattle.n41_check.specs.Rows.{Row, row_of, blank, has, put_row, took_row, dialed_row, broke_row}

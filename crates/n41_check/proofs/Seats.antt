@@ -18,7 +18,7 @@ use Rattle.n41_journal.specs.declared.events.Event.{Event}
 use Rattle.n41_journal.specs.declared.events.Event.TheVariants.{Began, Put, Took, CbTook, CbPut, Dialed, DialFailed, Broke, Ticked, Answered, Quit}
 use Rattle.n41_model.specs.Requests.{moment, slot_number, request, verdict}
 use Rattle.n41_model.specs.Sessions.{phase, plan_of, session}
-use Rattle.n41_model.specs.Calls.{began_at, call, chosen, command, in_running, is_caller, is_new, ledger, owner_at, put_call, slot_in, sooner, took_call}
+use Rattle.n41_calls.specs.Calls.{began_at, call, chosen, command, in_running, is_caller, is_new, ledger, owner_at, put_call, slot_in, sooner, took_call}
 use Rattle.n41_view.specs.Step.{call_of, wants, with_call}
 use Rattle.n41_view.specs.View.{seat_of, seat_with}
 use Rattle.n41_view.specs.declared.tables.Seat.{Seat}

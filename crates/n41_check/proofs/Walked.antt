@@ -8,8 +8,8 @@ use Rattle.n41_results.specs.declared.replies.Reply.{Reply}
 use Rattle.n41_journal.specs.Journal.{BeginsWith}
 use Rattle.n41_journal.specs.declared.events.Event.{Event}
 use Rattle.n41_journal.specs.declared.events.Event.TheVariants.{Began, Put, Took, CbTook, CbPut, Dialed, DialFailed, Broke, Ticked, Answered, Quit}
-use Rattle.n41_model.specs.Calls.{Call, answered_call, attempts_after, call, chosen, command, in_running, is_caller, is_new, ledger, owner_at, fresh_call, put_call, slot_in, took_call, way_of}
-use Rattle.n41_model.specs.Kept.{Kept}
+use Rattle.n41_calls.specs.Calls.{Call, answered_call, attempts_after, call, chosen, command, in_running, is_caller, is_new, ledger, owner_at, fresh_call, put_call, slot_in, took_call, way_of}
+use Rattle.n41_calls.specs.Kept.{Kept}
 use Rattle.n41_model.specs.Replies.{is_final, is_ok}
 use Rattle.n41_model.specs.Requests.{moment, request, slot_number, verdict}
 use Rattle.n41_model.specs.Sessions.{phase, plan_of}

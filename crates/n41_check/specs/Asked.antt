@@ -4,7 +4,7 @@ use Rattle.std.specs.BTreeMap.{get}
 use Rattle.std.specs.Ordering.{nat_cmp}
 use Rattle.n41_types.specs.declared.plans.Request.{Request}
 use Rattle.n41_journal.specs.declared.events.Event.{Event}
-use Rattle.n41_model.specs.Calls.{is_new, in_running, chosen, ledger}
+use Rattle.n41_calls.specs.Calls.{is_new, in_running, chosen, ledger}
 use Rattle.n41_model.specs.Requests.{out, outs, request, slot_number}
 use Rattle.n41_model.specs.Sessions.{phase}
 use Rattle.n41_check.specs.Rows.{row_of, row_at, rows, Apart}

@@ -5,7 +5,7 @@ use Rattle.std.specs.Ordering.{nat_cmp}
 use Rattle.n41_types.specs.declared.commands.Command.{Command}
 use Rattle.n41_types.specs.declared.plans.Plan.{Plan}
 use Rattle.n41_results.specs.declared.sessions.SessionMade.{SessionMade}
-use Rattle.n41_model.specs.Calls.{at_root, fresh_call, way_of, answered_call, put_call}
+use Rattle.n41_calls.specs.Calls.{at_root, fresh_call, way_of, answered_call, put_call}
 use Rattle.n41_view.specs.Step.{call_of, with_call, wants}
 use Rattle.n41_view.specs.declared.tables.Seat.{Seat}
 

@@ -9,7 +9,7 @@ use Rattle.n41_results.specs.declared.replies.Reply.{Reply}
 use Rattle.n41_journal.specs.declared.events.Event.{Event}
 use Rattle.n41_model.specs.Replies.{is_final, gives_back}
 use Rattle.n41_model.specs.Requests.{is_on, is_waiting, knows, turn_of, out, used, retried, sent, doubt}
-use Rattle.n41_model.specs.Calls.{is_caller, owner}
+use Rattle.n41_calls.specs.Calls.{is_caller, owner}
 use Rattle.n41_view.specs.Causes.{is_changing}
 use Rattle.n41_check.specs.Rules.{last_put}
 use Rattle.n41_check.specs.declared.rules.Rule.{Rule}

@@ -9,9 +9,9 @@ use Rattle.n41_journal.specs.Journal.{BeginsWith}
 use Rattle.n41_journal.specs.declared.events.Event.{Event}
 use Rattle.n41_journal.specs.declared.events.Event.TheVariants.{Began, Put, Took, Answered}
 use Rattle.n41_model.specs.declared.words.Setup.{Setup}
-use Rattle.n41_model.specs.Answers.{HasCause}
-use Rattle.n41_model.specs.Calls.{command, number}
-use Rattle.n41_model.specs.Kept.{Kept}
+use Rattle.n41_calls.specs.Answers.{HasCause}
+use Rattle.n41_calls.specs.Calls.{command, number}
+use Rattle.n41_calls.specs.Kept.{Kept}
 use Rattle.n41_model.specs.Requests.{is_on, made, outs, used}
 use Rattle.n41_check.specs.declared.rules.Rule.{Rule}
 use Rattle.n41_check.specs.declared.rules.Rule.TheVariants.{Slots, Retries, Turns, Causes, Answers}

@@ -8,7 +8,7 @@ use Rattle.n41_results.specs.declared.replies.Reply.{Reply}
 use Rattle.n41_journal.specs.declared.events.Event.{Event}
 use Rattle.n41_model.specs.Requests.{moment, heard, rounds, request, bare_verdict, verdict, slot_number}
 use Rattle.n41_model.specs.Sessions.{phase, phases, session, client, plan_of}
-use Rattle.n41_model.specs.Calls.{owner_at, ledger, slot_in, is_new, in_running, chosen}
+use Rattle.n41_calls.specs.Calls.{owner_at, ledger, slot_in, is_new, in_running, chosen}
 use Rattle.n41_view.specs.Causes.{given_in}
 use Rattle.n41_view.specs.Step.{Said}
 use Rattle.n41_view.specs.View.{seat_of}

@@ -1,5 +1,5 @@
 ghost use Rattle.std.specs.Prelude.{◌≡◌, ◌+◌, ◌<◌, ◌^◌, ◌==◌, ◌&&◌, ℕ, Some, None, OnOk, is_some, if◌then◌else◌, option_map};
-ghost use Rattle.n41_model.specs.Calls.{is_caller, listing_in, reached_in, is_put_off_by, pause_given, took_call, way_of};
+ghost use Rattle.n41_calls.specs.Calls.{is_caller, listing_in, reached_in, is_put_off_by, pause_given, took_call, way_of};
 ghost use Rattle.n41_view.specs.Causes.{given_in};
 ghost use Rattle.n41_said.specs.Listings.{names_told};
 ghost use Rattle.n41_view.specs.Step.{call_of, with_call, wants};

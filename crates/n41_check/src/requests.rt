@@ -3,7 +3,7 @@ ghost use Rattle.n41_journal.specs.declared.events.Cause.{Cause};
 ghost use Rattle.n41_journal.specs.declared.events.Event.{Event};
 ghost use Rattle.n41_journal.specs.declared.events.Event.TheVariants.{Put, Took, Dialed, Broke};
 ghost use Rattle.n41_model.specs.Requests.{made, slot_number, verdict_in};
-ghost use Rattle.n41_model.specs.Calls.{is_new, ledger, owner_at, slot_in};
+ghost use Rattle.n41_calls.specs.Calls.{is_new, ledger, owner_at, slot_in};
 ghost use Rattle.n41_check.specs.Rules.{Keeps};
 ghost use Rattle.n41_check.specs.declared.rules.Rule.TheVariants as rule;
 ghost use Rattle.n41_check.specs.Rows.{is_request, row_breach, row_in, rows, row_at};

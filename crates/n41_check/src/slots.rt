@@ -1,6 +1,6 @@
 ghost use Rattle.std.specs.Prelude.{◌≡◌, map, OnOk, option_copied};
 ghost use Rattle.n41_model.specs.Requests.{turn_of, is_on};
-ghost use Rattle.n41_model.specs.Calls.{is_caller};
+ghost use Rattle.n41_calls.specs.Calls.{is_caller};
 ghost use Rattle.n41_check.specs.Rows.{has, blank, row_in, rows, row_at, is_there, with_row, put_row, took_row, dialed_row, broke_row, is_changing_out, is_doubted};
 ghost use Rattle.std.specs.List.{list_any};
 

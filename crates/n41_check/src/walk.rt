@@ -1,5 +1,5 @@
 ghost use Rattle.std.specs.Prelude.{◌≡◌, ◌≤◌, ℕ, reverse, None, IfOk};
-ghost use Rattle.n41_model.specs.Kept.{Kept};
+ghost use Rattle.n41_calls.specs.Kept.{Kept};
 ghost use Rattle.n41_model.specs.declared.words.Setup.{Setup};
 ghost use Rattle.n41_check.specs.Rules.{callers, IsVerdict};
 

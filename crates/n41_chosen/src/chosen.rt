@@ -1,7 +1,7 @@
 ghost use Rattle.std.specs.Prelude.{◌≡◌, None, Some, [], option_copied, if◌then◌else◌};
 ghost use Rattle.n41_model.specs.Requests.{slot_number};
 ghost use Rattle.n41_model.specs.Sessions.{passed};
-ghost use Rattle.n41_model.specs.Calls.{is_ready_call, in_running};
+ghost use Rattle.n41_calls.specs.Calls.{is_ready_call, in_running};
 ghost use Rattle.n41_view.specs.declared.tables.Facts.{Facts};
 ghost use Rattle.n41_view.specs.Step.{call_of, sooner_seat, wants, chosen_from, caller_in, is_new_in, new_owner};
 

@@ -1,6 +1,6 @@
 ghost use Rattle.std.specs.Prelude.{◌≡◌, Some, take, option_copied};
 ghost use Rattle.n41_types.specs.declared.plans.Plan.TheVariants as plans;
-ghost use Rattle.n41_model.specs.Calls.{make_dir, remove, rename, list, goal, next_plan, is_plan};
+ghost use Rattle.n41_calls.specs.Calls.{make_dir, remove, rename, list, goal, next_plan, is_plan};
 
 use n41_model::{Listed, Way};
 use n41_results::SessionMade;

@@ -6,8 +6,8 @@ use Rattle.n41_types.specs.declared.commands.Answer.TheVariants as says
 use Rattle.n41_types.specs.declared.commands.Command.{Command}
 use Rattle.n41_types.specs.declared.commands.Command.TheVariants as asks
 use Rattle.n41_types.specs.declared.commands.Value.TheVariants as value
-use Rattle.n41_model.specs.Calls.{call, either, pause_given}
-use Rattle.n41_model.specs.Kept.{Kept, MayAnswer}
+use Rattle.n41_calls.specs.Calls.{call, either, pause_given}
+use Rattle.n41_calls.specs.Kept.{Kept, MayAnswer}
 use Rattle.n41_view.specs.Causes.{CauseIn, given_in}
 use Rattle.n41_view.specs.Laws.{CausesFromView}
 use Rattle.n41_view.specs.View.{View, view}

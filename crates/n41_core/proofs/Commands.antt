@@ -4,7 +4,7 @@ use Rattle.std.proofs.lemmas.Bool.Decides.{nat_tests}
 use Rattle.std.specs.Prelude.{is_none, is_some, nat_lt, nat_le, OnOk}
 use Rattle.n41_journal.specs.declared.events.Event.{Event}
 use Rattle.n41_model.specs.Requests.{quit}
-use Rattle.n41_model.specs.Calls.{command, number}
+use Rattle.n41_calls.specs.Calls.{command, number}
 use Rattle.n41_view.specs.View.{view}
 use Rattle.n41_view.specs.declared.tables.Seat.{Seat}
 use Rattle.n41_answers.specs.Answers.{lists, lists_from}

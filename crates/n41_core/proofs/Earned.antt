@@ -14,7 +14,7 @@ use Rattle.n41_model.specs.declared.words.Verdict.TheVariants as v
 use Rattle.n41_model.specs.Replies.{is_ok, is_final}
 use Rattle.n41_model.specs.Requests.{request, verdict, moment, slot_number}
 use Rattle.n41_model.specs.Sessions.{phase, plan_of}
-use Rattle.n41_model.specs.Calls.{Call, Ledger, ledger, call, fresh_call, put_call, took_call, answered_call, command, way_of, way_after, answer_in, is_again, is_put_off_by, attempts_after, done_with, value_of, is_caller, owner_at, slot_in, is_new, in_running, chosen}
+use Rattle.n41_calls.specs.Calls.{Call, Ledger, ledger, call, fresh_call, put_call, took_call, answered_call, command, way_of, way_after, answer_in, is_again, is_put_off_by, attempts_after, done_with, value_of, is_caller, owner_at, slot_in, is_new, in_running, chosen}
 
 -- an answer that a reply gives
 abbrev pub IsEarned : Answer → Type 0

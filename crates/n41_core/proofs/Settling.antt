@@ -10,8 +10,8 @@ use Rattle.n41_journal.specs.declared.events.Event.{Event}
 use Rattle.n41_journal.specs.declared.events.Event.TheVariants.{Began, Put, Dialed, DialFailed, Broke, Answered, Quit}
 use Rattle.n41_model.specs.Requests.{slot_number}
 use Rattle.n41_model.specs.Sessions.{phase}
-use Rattle.n41_model.specs.Calls.{Call, Ledger, ledger, call, command, put_call, fresh_call, way_of, is_caller, is_new, in_running, chosen}
-use Rattle.n41_model.specs.Answers.{breach_at}
+use Rattle.n41_calls.specs.Calls.{Call, Ledger, ledger, call, command, put_call, fresh_call, way_of, is_caller, is_new, in_running, chosen}
+use Rattle.n41_calls.specs.Answers.{breach_at}
 use Rattle.n41_core.specs.Settled.{Waits, IsSettled, IsDone, IsDecided}
 use Rattle.n41_core.specs.State.{OnlyAnswers, AddsAnswers}
 

@@ -17,9 +17,9 @@ use Rattle.n41_model.specs.declared.words.Phase.TheVariants.{Binding, Session, C
 use Rattle.n41_model.specs.declared.words.Setup.{Setup}
 use Rattle.n41_model.specs.declared.words.Listed.{Listed}
 use Rattle.n41_model.specs.declared.words.Way.{Way}
-use Rattle.n41_model.specs.Calls.{command, call, ahead, goal, last_of, list, list_size, make_dir, remove, rename, next_plan, plan_next, walk_most, walk_or}
-use Rattle.n41_model.specs.Due.{due, only_if, with_plan, bare_with, bare_due, on_free, on_free_slot, phase_plan, step_plan, own_plan, own_plan_in, destroy_plan, destroy_in, bind_in, create_in, is_open, may_retry, may_step, may_own, may_begin, may_destroy, item_due}
-use Rattle.n41_model.specs.Kept.{Kept}
+use Rattle.n41_calls.specs.Calls.{command, call, ahead, goal, last_of, list, list_size, make_dir, remove, rename, next_plan, plan_next, walk_most, walk_or}
+use Rattle.n41_calls.specs.Due.{due, only_if, with_plan, bare_with, bare_due, on_free, on_free_slot, phase_plan, step_plan, own_plan, own_plan_in, destroy_plan, destroy_in, bind_in, create_in, is_open, may_retry, may_step, may_own, may_begin, may_destroy, item_due}
+use Rattle.n41_calls.specs.Kept.{Kept}
 use Rattle.n41_model.specs.Replies.{is_final}
 use Rattle.n41_model.specs.Requests.{bares, outs, first, joined, without, knows, has_xid, is_bare, is_on, made, bare_waits, bare, out}
 use Rattle.n41_model.specs.Sessions.{session, client, phase, completed, next_xid, free_slot}

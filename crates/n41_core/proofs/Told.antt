@@ -9,8 +9,8 @@ use Rattle.n41_results.specs.Shapes.{shape_of, told}
 use Rattle.n41_journal.specs.declared.events.Event.{Event}
 use Rattle.n41_model.specs.declared.words.Item.{Item}
 use Rattle.n41_model.specs.declared.words.Setup.{Setup}
-use Rattle.n41_model.specs.Due.{due, NothingDue}
-use Rattle.n41_model.specs.Kept.{Kept, IsOld}
+use Rattle.n41_calls.specs.Due.{due, NothingDue}
+use Rattle.n41_calls.specs.Kept.{Kept, IsOld}
 use Rattle.n41_view.specs.Causes.{is_old_in, awaited_in}
 use Rattle.n41_view.specs.Due.{due_in}
 use Rattle.n41_view.specs.Laws.{DueFromView, EndFromView, OldFromView, AwaitedFromView}

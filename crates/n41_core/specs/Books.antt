@@ -4,8 +4,8 @@ use Rattle.n41_types.specs.declared.commands.Answer.{Answer}
 use Rattle.n41_journal.specs.declared.events.Event.{Event}
 use Rattle.n41_journal.specs.declared.events.Event.TheVariants.{Answered}
 use Rattle.n41_model.specs.declared.words.Setup.{Setup}
-use Rattle.n41_model.specs.Calls.{call, either}
-use Rattle.n41_model.specs.Kept.{MayAnswer}
+use Rattle.n41_calls.specs.Calls.{call, either}
+use Rattle.n41_calls.specs.Kept.{MayAnswer}
 use Rattle.n41_answers.specs.Index.{spent}
 use Rattle.n41_core.specs.Settled.{IsDone}
 use Rattle.n41_core.specs.State.{AddsAnswers}

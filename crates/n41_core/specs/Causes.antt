@@ -13,9 +13,9 @@ use Rattle.n41_journal.specs.declared.events.Event.TheVariants.{Broke}
 use Rattle.n41_model.specs.declared.words.Item.{Item}
 use Rattle.n41_model.specs.declared.words.Setup.{Setup}
 use Rattle.n41_model.specs.Requests.{standing, takes, quit}
-use Rattle.n41_model.specs.Calls.{command, number}
-use Rattle.n41_model.specs.Due.{due, NothingDue, has_ended}
-use Rattle.n41_model.specs.Kept.{IsAwaited}
+use Rattle.n41_calls.specs.Calls.{command, number}
+use Rattle.n41_calls.specs.Due.{due, NothingDue, has_ended}
+use Rattle.n41_calls.specs.Kept.{IsAwaited}
 use Rattle.n41_view.specs.View.{view}
 use Rattle.n41_wants.specs.Wants.{awaits_in, wait_in}
 use Rattle.n41_wants.specs.declared.wants.Want.{Want}

@@ -2,8 +2,8 @@
 use Rattle.std.specs.Prelude.{◌≡◌, ◌⊎◌, ◌<◌, ℕ, List, None}
 use Rattle.n41_journal.specs.declared.events.Event.{Event}
 use Rattle.n41_model.specs.Requests.{rounds}
-use Rattle.n41_model.specs.Calls.{command, call, given}
-use Rattle.n41_model.specs.Answers.{breach_at, round_limit}
+use Rattle.n41_calls.specs.Calls.{command, call, given}
+use Rattle.n41_calls.specs.Answers.{breach_at, round_limit}
 use Rattle.n41_view.specs.Causes.{given_in}
 use Rattle.n41_view.specs.View.{View}
 use Rattle.n41_view.specs.declared.tables.Seat.{Seat}

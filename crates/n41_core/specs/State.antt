@@ -11,10 +11,10 @@ use Rattle.n41_journal.specs.declared.events.Event.TheVariants.{Began, Put, Took
 use Rattle.n41_model.specs.declared.words.Item.{Item}
 use Rattle.n41_model.specs.declared.words.Setup.{Setup}
 use Rattle.n41_model.specs.Requests.{standing, puts, moment}
-use Rattle.n41_model.specs.Calls.{number}
-use Rattle.n41_model.specs.Answers.{breach_at}
-use Rattle.n41_model.specs.Due.{due}
-use Rattle.n41_model.specs.Kept.{MayTake}
+use Rattle.n41_calls.specs.Calls.{number}
+use Rattle.n41_calls.specs.Answers.{breach_at}
+use Rattle.n41_calls.specs.Due.{due}
+use Rattle.n41_calls.specs.Kept.{MayTake}
 
 pub record State : Type 0 where
   pub setup : Setup

@@ -1,7 +1,7 @@
 ghost use Rattle.std.specs.Prelude.{◌≡◌, ◌<◌, ℕ, List, None, IfSome, IfNone, slice_index};
 ghost use Rattle.n41_types.specs.declared.commands.Answer.{Answer as AnswerValue};
 ghost use Rattle.n41_journal.specs.declared.events.Event.{Event};
-ghost use Rattle.n41_model.specs.Calls.{pause_given};
+ghost use Rattle.n41_calls.specs.Calls.{pause_given};
 ghost use Rattle.n41_view.specs.Causes.{CauseIn};
 ghost use Rattle.n41_view.specs.View.{view};
 ghost use Rattle.n41_core.specs.Books.{HasSpare, Hands, Settles};

@@ -1,5 +1,5 @@
 ghost use Rattle.std.specs.Prelude.{◌≡◌, ◌<◌, ◌≤◌, ◌^◌, [], length, slice_get, slice_index, option_copied, ℕ, suc, IfOk, IfSome, IfNone, OnOk, OnErr};
-ghost use Rattle.n41_model.specs.Kept.{Kept, May};
+ghost use Rattle.n41_calls.specs.Kept.{Kept, May};
 ghost use Rattle.n41_view.specs.View.{view, facts_of};
 ghost use Rattle.n41_types.specs.declared.commands.Answer.{Answer as AnswerValue};
 ghost use Rattle.n41_answers.specs.Answers.{HasAnswer};

@@ -1,9 +1,9 @@
 ghost use Rattle.std.specs.Prelude.{◌≡◌, ◌≤◌, ◌<◌, ◌&&◌, ℕ, [], length, is_none, nat_lt, IfOk, IfSome, IfNone};
 ghost use Rattle.n41_types.specs.declared.commands.Answer.{Answer as AnswerValue};
 ghost use Rattle.n41_answers.specs.Answers.{HasAnswer};
-ghost use Rattle.n41_model.specs.Calls.{command};
-ghost use Rattle.n41_model.specs.Kept.{Kept, IsOld};
-ghost use Rattle.n41_model.specs.Answers.{breach_at};
+ghost use Rattle.n41_calls.specs.Calls.{command};
+ghost use Rattle.n41_calls.specs.Kept.{Kept, IsOld};
+ghost use Rattle.n41_calls.specs.Answers.{breach_at};
 ghost use Rattle.n41_model.specs.Requests.{standing, moment, rounds};
 ghost use Rattle.n41_model.specs.Sessions.{phase};
 ghost use Rattle.n41_core.specs.Causes.{WantCause};

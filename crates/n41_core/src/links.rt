@@ -1,5 +1,5 @@
 ghost use Rattle.std.specs.Prelude.{◌≡◌, ◌≢◌, suc, true, false, None, Some, IfOk, OnOk, OnErr};
-ghost use Rattle.n41_model.specs.Kept.{MayBreakBy};
+ghost use Rattle.n41_calls.specs.Kept.{MayBreakBy};
 ghost use Rattle.n41_model.specs.Requests.{standing, dials};
 ghost use Rattle.n41_core.specs.State.{appends};
 

@@ -1,5 +1,5 @@
 ghost use Rattle.std.specs.Prelude.{◌≡◌, ◌⊎◌, ◌≤◌, ◌<◌, suc, true, Some, None, IfOk, IfErr, OnOk, OnErr};
-ghost use Rattle.n41_model.specs.Calls.{number as last_number, is_built};
+ghost use Rattle.n41_calls.specs.Calls.{number as last_number, is_built};
 ghost use Rattle.n41_model.specs.Requests.{moment as last_moment};
 ghost use Rattle.n41_core.specs.Books.{HasSpare};
 ghost use Rattle.n41_core.specs.State.{State, posted};

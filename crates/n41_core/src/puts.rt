@@ -1,6 +1,6 @@
 ghost use Rattle.std.specs.Prelude.{◌≡◌, ◌≢◌, ◌≤◌, ◌⊎◌, ℕ, length, Some, IfOk, IfSome, IfNone, OnErr};
 ghost use Rattle.n41_model.specs.declared.words.Item.{Item as ItemValue};
-ghost use Rattle.n41_model.specs.Due.{due, NothingDue};
+ghost use Rattle.n41_calls.specs.Due.{due, NothingDue};
 ghost use Rattle.n41_model.specs.Requests.{standing};
 ghost use Rattle.n41_requests.specs.Requests.{spelled, IsSmall, IsSpellable};
 ghost use Rattle.n41_core.specs.State.{HasPut};

@@ -1,7 +1,7 @@
 ghost use Rattle.std.specs.Prelude.{◌≡◌, ◌≤◌, ◌<◌, Some, List, ◌∷◌, OnOk, OnErr, IfErr, IfSome, IfNone};
 ghost use Rattle.n41_journal.specs.declared.events.Event.{Event as EventValue};
 ghost use Rattle.n41_types.specs.declared.plans.Request.{Request as RequestValue};
-ghost use Rattle.n41_model.specs.Kept.{May, MayBreakBy};
+ghost use Rattle.n41_calls.specs.Kept.{May, MayBreakBy};
 ghost use Rattle.n41_model.specs.Requests.{standing};
 ghost use Rattle.n41_results.specs.declared.messages.Heard.TheVariants as heard;
 ghost use Rattle.n41_core.specs.State.{HasTaken, AddsAnswers, appends};

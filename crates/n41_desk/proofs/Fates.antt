@@ -13,7 +13,7 @@ use Rattle.n41_journal.specs.declared.events.Cause.{Cause}
 use Rattle.n41_journal.specs.declared.events.Event.{Event}
 use Rattle.n41_journal.specs.declared.events.Event.TheVariants.{Put, Took, Dialed, DialFailed, Broke}
 use Rattle.n41_model.specs.declared.words.Setup.{Setup}
-use Rattle.n41_model.specs.Kept.{Kept}
+use Rattle.n41_calls.specs.Kept.{Kept}
 use Rattle.n41_model.specs.Requests.{standing, dials, takes}
 use Rattle.n41_requests.specs.Requests.{spelled}
 use Rattle.n41_core.specs.State.{State, appends}

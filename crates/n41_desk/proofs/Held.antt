@@ -9,8 +9,8 @@ use Rattle.n41_results.specs.declared.messages.Parcel.{Ghosts as ParcelGhosts}
 use Rattle.n41_journal.specs.declared.events.Event.{Event}
 use Rattle.n41_journal.specs.declared.events.Event.TheVariants.{Dialed, DialFailed, Quit}
 use Rattle.n41_model.specs.declared.words.Setup.{Setup}
-use Rattle.n41_model.specs.Answers.{breach_at}
-use Rattle.n41_model.specs.Calls.{number}
+use Rattle.n41_calls.specs.Answers.{breach_at}
+use Rattle.n41_calls.specs.Calls.{number}
 use Rattle.n41_model.specs.Requests.{dials, moment, quit}
 use Rattle.n41_wants.specs.declared.wants.Want.{Want}
 use Rattle.n41_core.specs.Causes.{WantCause, post_fault}

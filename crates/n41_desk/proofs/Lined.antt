@@ -12,7 +12,7 @@ use Rattle.n41_replies.specs.Replies.{IsSpellable}
 use Rattle.n41_journal.specs.declared.events.Event.{Event}
 use Rattle.n41_journal.specs.declared.events.Event.TheVariants.{Dialed, DialFailed}
 use Rattle.n41_model.specs.declared.words.Setup.{Setup}
-use Rattle.n41_model.specs.Kept.{Kept}
+use Rattle.n41_calls.specs.Kept.{Kept}
 use Rattle.n41_model.specs.Requests.{standing, dials}
 use Rattle.n41_core.specs.State.{State, appends}
 use Rattle.n41_wire.specs.Ends.{inlet_inflow}

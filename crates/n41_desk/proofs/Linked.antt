@@ -19,8 +19,8 @@ use Rattle.n41_journal.specs.declared.events.Event.{Event}
 use Rattle.n41_journal.specs.declared.events.Event.TheVariants.{Put, Took, Dialed, DialFailed, Broke}
 use Rattle.n41_model.specs.declared.words.Item.{Item}
 use Rattle.n41_model.specs.declared.words.Setup.{Setup}
-use Rattle.n41_model.specs.Due.{due, NothingDue}
-use Rattle.n41_model.specs.Kept.{Kept, IsOld}
+use Rattle.n41_calls.specs.Due.{due, NothingDue}
+use Rattle.n41_calls.specs.Kept.{Kept, IsOld}
 use Rattle.n41_model.specs.Requests.{standing, dials, takes}
 use Rattle.n41_replies.specs.Replies.{IsSpellable}
 use Rattle.n41_requests.specs.Requests.{spelled}

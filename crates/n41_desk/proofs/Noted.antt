@@ -5,8 +5,8 @@ use Rattle.std.proofs.lemmas.Bool.Decides.{nat_tests}
 use Rattle.n41_types.specs.declared.commands.Command.{Command}
 use Rattle.n41_journal.specs.declared.events.Event.{Event}
 use Rattle.n41_journal.specs.declared.events.Event.TheVariants.{Began, Put, Took, CbTook, CbPut, Dialed, DialFailed, Broke, Ticked, Answered, Quit}
-use Rattle.n41_model.specs.Answers.{breach_at}
-use Rattle.n41_model.specs.Calls.{number}
+use Rattle.n41_calls.specs.Answers.{breach_at}
+use Rattle.n41_calls.specs.Calls.{number}
 use Rattle.n41_model.specs.Requests.{moment}
 use Rattle.n41_core.specs.Settled.{IsDecided}
 use Rattle.n41_core.specs.State.{State, OnlyAnswers, AddsAnswers, ThenAnswers, met, posted, ticked}

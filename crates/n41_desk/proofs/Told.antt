@@ -14,7 +14,7 @@ use Rattle.n41_journal.specs.declared.events.Event.{Event}
 use Rattle.n41_journal.specs.declared.events.Event.TheVariants.{Began, Put, Took, CbTook, CbPut, Dialed, DialFailed, Broke, Ticked, Answered, Quit}
 use Rattle.n41_tellable.specs.Tellable.{IsTellable, AllTellable}
 use Rattle.n41_model.specs.declared.words.Setup.{Setup}
-use Rattle.n41_model.specs.Kept.{Kept, May}
+use Rattle.n41_calls.specs.Kept.{Kept, May}
 use Rattle.n41_core.proofs.Spellable.{due_short}
 use Rattle.n41_wire.specs.Ends.{inlet_replies}
 use Rattle.n41_wire.specs.declared.wire.Wire.{Wire}

@@ -12,7 +12,7 @@ use Rattle.n41_replies.specs.Replies.{reply_at}
 use Rattle.n41_journal.specs.declared.events.Cause.{Cause}
 use Rattle.n41_journal.specs.declared.events.Cause.TheVariants as cause
 use Rattle.n41_journal.specs.declared.events.Event.{Event}
-use Rattle.n41_model.specs.Kept.{IsOld}
+use Rattle.n41_calls.specs.Kept.{IsOld}
 use Rattle.n41_core.specs.Causes.{ShapeCause}
 use Rattle.n41_wire.specs.Ends.{inlet_log, inlet_replies, inlet_inflow, inlet_still, outlet_outflow}
 use Rattle.n41_wire.specs.Logs.{AreReadAs}

@@ -9,8 +9,8 @@ use Rattle.n41_journal.specs.declared.events.Cause.TheVariants as cause
 use Rattle.n41_journal.specs.declared.events.Event.{Event}
 use Rattle.n41_journal.specs.declared.events.Event.TheVariants.{Put, Took, Dialed, DialFailed, Broke, Answered}
 use Rattle.n41_model.specs.declared.words.Item.{Item}
-use Rattle.n41_model.specs.Calls.{number}
-use Rattle.n41_model.specs.Kept.{IsOld}
+use Rattle.n41_calls.specs.Calls.{number}
+use Rattle.n41_calls.specs.Kept.{IsOld}
 use Rattle.n41_model.specs.Requests.{dials, moment}
 use Rattle.n41_wants.specs.declared.wants.Want.{Want}
 use Rattle.n41_wants.specs.declared.wants.Want.TheVariants as want

@@ -1,7 +1,7 @@
 // How a connection breaks.
 ghost use Rattle.std.specs.Prelude.{◌≡◌, true, false, ℕ, Some};
 ghost use Rattle.n41_journal.specs.declared.events.Event.{Event as EventValue};
-ghost use Rattle.n41_model.specs.Kept.{IsOld, MayBreakBy};
+ghost use Rattle.n41_calls.specs.Kept.{IsOld, MayBreakBy};
 ghost use Rattle.n41_model.specs.Requests.{standing};
 ghost use Rattle.n41_core.specs.State.{appends};
 ghost use Rattle.n41_desk.specs.declared.breaking.Fate.{Fate as FateValue};

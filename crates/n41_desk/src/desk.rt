@@ -2,9 +2,9 @@ ghost use Rattle.std.specs.Prelude.{◌≡◌, ◌≤◌, [], ◌&&◌, ℕ, len
 ghost use Rattle.n41_types.specs.declared.commands.Answer.{Answer as AnswerValue};
 ghost use Rattle.n41_journal.specs.declared.events.Event.{Event as EventValue};
 ghost use Rattle.n41_answers.specs.Answers.{HasAnswer};
-ghost use Rattle.n41_model.specs.Answers.{breach_at};
-ghost use Rattle.n41_model.specs.Calls.{command, is_built};
-ghost use Rattle.n41_model.specs.Kept.{Kept};
+ghost use Rattle.n41_calls.specs.Answers.{breach_at};
+ghost use Rattle.n41_calls.specs.Calls.{command, is_built};
+ghost use Rattle.n41_calls.specs.Kept.{Kept};
 ghost use Rattle.n41_model.specs.Requests.{quit, rounds};
 ghost use Rattle.n41_core.specs.Settled.{IsSettled};
 ghost use Rattle.n41_tellable.specs.Tellable.{AllTellable};

@@ -4,7 +4,7 @@ ghost use Rattle.std.specs.Option.{ForSome};
 ghost use Rattle.n41_journal.specs.declared.events.Event.{Event as EventValue};
 ghost use Rattle.n41_link.specs.Flow.{KnownAs};
 ghost use Rattle.n41_model.specs.declared.words.Item.{Item as ItemValue};
-ghost use Rattle.n41_model.specs.Due.{due};
+ghost use Rattle.n41_calls.specs.Due.{due};
 ghost use Rattle.n41_model.specs.Requests.{standing, dials};
 ghost use Rattle.n41_core.specs.State.{appends};
 ghost use Rattle.n41_desk.specs.Lines.{HasLines, StaysQuiet, in_order};

@@ -2,7 +2,7 @@
 ghost use Rattle.std.specs.Prelude.{◌≡◌, ◌≤◌, length, None, Some, IsSome, IfOk, OnErr};
 ghost use Rattle.n41_link.specs.Flow.{KnownAs};
 ghost use Rattle.n41_model.specs.declared.words.Item.{Item as ItemValue};
-ghost use Rattle.n41_model.specs.Due.{due};
+ghost use Rattle.n41_calls.specs.Due.{due};
 ghost use Rattle.n41_model.specs.Requests.{standing};
 ghost use Rattle.n41_requests.specs.Requests.{spelled};
 ghost use Rattle.n41_record.specs.Fragments.{most_bytes};

@@ -10,8 +10,8 @@ use Rattle.n41_journal.specs.declared.events.Cause.{Cause}
 use Rattle.n41_journal.specs.declared.events.Event.{Event}
 use Rattle.n41_journal.specs.declared.events.Event.TheVariants.{Began, Put, Took, CbTook, CbPut, Dialed, DialFailed, Broke, Ticked, Answered, Quit}
 use Rattle.n41_model.specs.declared.words.Setup.{Setup}
-use Rattle.n41_model.specs.Answers.{breach_at}
-use Rattle.n41_model.specs.Calls.{command, number}
+use Rattle.n41_calls.specs.Answers.{breach_at}
+use Rattle.n41_calls.specs.Calls.{command, number}
 use Rattle.n41_model.specs.Requests.{quit, moment, dials}
 use Rattle.n41_wants.specs.declared.wants.Want.{Want}
 use Rattle.n41_wants.specs.declared.wants.Want.TheVariants as want

@@ -18,9 +18,9 @@ use Rattle.n41_model.specs.declared.words.Phase.{Phase}
 use Rattle.n41_model.specs.declared.words.Phase.TheVariants.{Down, Binding, Session, ClientId, Settling, Reclaiming, Completing, Running, Dead}
 use Rattle.n41_model.specs.declared.words.Verdict.{Verdict}
 use Rattle.n41_model.specs.declared.words.Verdict.TheVariants as v
-use Rattle.n41_model.specs.Answers.{breaks, breach_at, place_or, round_limit}
-use Rattle.n41_model.specs.Calls.{command, all_answered}
-use Rattle.n41_model.specs.Due.{finishing, has_ended, is_dead, is_over}
+use Rattle.n41_calls.specs.Answers.{breaks, breach_at, place_or, round_limit}
+use Rattle.n41_calls.specs.Calls.{command, all_answered}
+use Rattle.n41_calls.specs.Due.{finishing, has_ended, is_dead, is_over}
 use Rattle.n41_model.specs.Replies.{is_breach, is_bare_breach, verdict_of, bare_verdict_of}
 use Rattle.n41_model.specs.Requests.{quit, rounds, request, retried, verdict, verdict_in, verdict_on, bare_verdict, bare_verdict_on, is_bare_use}
 use Rattle.n41_model.specs.Sessions.{phase, phases, session, client, took_phase, slot_phase, bare_phase, dialed_phase, broke_phase, worked, is_lease_time, plan_of, plan_in}

@@ -4,7 +4,7 @@ use Rattle.std.proofs.lemmas.List.{length-replicate}
 use Rattle.std.specs.Prelude.{IfOk, OnOk, OnErr}
 use Rattle.n41_journal.specs.declared.events.Event.{Event}
 use Rattle.n41_model.specs.declared.words.Setup.{Setup}
-use Rattle.n41_model.specs.Due.{has_ended}
+use Rattle.n41_calls.specs.Due.{has_ended}
 use Rattle.n41_model.specs.Requests.{quit}
 use Rattle.n41_wants.specs.declared.wants.Want.{Want}
 use Rattle.n41_wants.specs.declared.wants.Want.TheVariants as want

@@ -12,8 +12,8 @@ use Rattle.n41_model.specs.declared.words.Item.TheVariants.{Fresh}
 use Rattle.n41_model.specs.declared.words.Listed.{Listed}
 use Rattle.n41_model.specs.declared.words.Setup.{Setup}
 use Rattle.n41_model.specs.declared.words.Way.{Way}
-use Rattle.n41_model.specs.Calls.{ahead, goal, list, list_size, make_dir, next_plan, remove, rename, walk_most, walk_or}
-use Rattle.n41_model.specs.Due.{only_if, with_plan, is_running}
+use Rattle.n41_calls.specs.Calls.{ahead, goal, list, list_size, make_dir, next_plan, remove, rename, walk_most, walk_or}
+use Rattle.n41_calls.specs.Due.{only_if, with_plan, is_running}
 use Rattle.n41_view.specs.declared.tables.Seat.{Seat}
 use Rattle.n41_view.specs.Due.{finishing_in, is_ready_seat, begins_seat, new_on, due_item}
 use Rattle.n41_view.specs.Step.{seat_plan}

@@ -1,8 +1,8 @@
 ghost use Rattle.std.specs.Prelude.{◌≡◌, ◌<◌, ◌≤◌, None, IfSome, IfNone};
 ghost use Rattle.n41_view.specs.Due.{has_ended_in, is_over_in};
 ghost use Rattle.n41_view.specs.Causes.{CauseIn, any_doubt, given_in};
-ghost use Rattle.n41_model.specs.Answers.{round_limit};
-ghost use Rattle.n41_model.specs.Due.{is_dead};
+ghost use Rattle.n41_calls.specs.Answers.{round_limit};
+ghost use Rattle.n41_calls.specs.Due.{is_dead};
 
 use crate::lookup::Lookup;
 use crate::plans::has_destroy_plan;

@@ -2,7 +2,7 @@ ghost use Rattle.std.specs.Prelude.{◌≡◌, ◌&&◌, ◌<◌, ◌≤◌, ℕ
 ghost use Rattle.n41_types.specs.declared.plans.Plan.{Plan as PlanValue};
 ghost use Rattle.n41_model.specs.declared.words.Item.{Item as ItemValue};
 ghost use Rattle.n41_model.specs.declared.words.Setup.{Setup as SetupValue};
-ghost use Rattle.n41_model.specs.Due.{is_session};
+ghost use Rattle.n41_calls.specs.Due.{is_session};
 ghost use Rattle.n41_view.specs.Due.{any_waiting, finishing_in, is_open_in, is_timely, may_step_in, may_own_in, new_on, due_item, due_in};
 ghost use Rattle.n41_due.specs.Order.{began_of, goes_before};
 

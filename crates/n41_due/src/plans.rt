@@ -1,6 +1,6 @@
 ghost use Rattle.std.specs.Prelude.{◌≡◌, ◌+◌, ◌<◌, Some, IfOk, is_some};
 ghost use Rattle.n41_model.specs.declared.words.Setup.{Setup as SetupValue};
-ghost use Rattle.n41_model.specs.Due.{bind_in, create_in, own_plan_in, destroy_in, bare_request};
+ghost use Rattle.n41_calls.specs.Due.{bind_in, create_in, own_plan_in, destroy_in, bare_request};
 ghost use Rattle.n41_view.specs.Due.{put_off_in, plan_for};
 
 use n41_model::{KnownClient, Phase, Setup};

@@ -1,5 +1,5 @@
 ghost use Rattle.std.specs.Prelude.{◌≡◌, ◌+◌, ◌&&◌, ℕ, Some, nat_le, true, false, not, None, IfOk, IfSome, IfNone, IsSome, option_copied, slice_get};
-ghost use Rattle.n41_model.specs.Due.{only_if};
+ghost use Rattle.n41_calls.specs.Due.{only_if};
 ghost use Rattle.n41_due.specs.Places.{place_on, numbered};
 ghost use Rattle.n41_model.specs.declared.words.Item.{Item as ItemValue};
 ghost use Rattle.n41_due.specs.Old.{is_bare_old};

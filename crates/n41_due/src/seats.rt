@@ -1,5 +1,5 @@
 ghost use Rattle.std.specs.Prelude.{◌≡◌, ◌<◌, ◌≤◌, ◌&&◌, if◌then◌else◌, Some, ℕ, true, false, length, slice_get, IfSome, IfNone};
-ghost use Rattle.n41_model.specs.Calls.{is_ready_call};
+ghost use Rattle.n41_calls.specs.Calls.{is_ready_call};
 ghost use Rattle.n41_view.specs.Due.{all_idle, is_ready_seat};
 ghost use Rattle.n41_view.specs.Step.{call_of};
 ghost use Rattle.n41_due.specs.Order.{can_begin, began_of, is_sooner};

@@ -1,7 +1,7 @@
 ghost use Rattle.std.specs.Prelude.{◌≡◌, ◌<◌, ◌≤◌, ◌+◌, ◌&&◌, nat_le, ℕ, None, true, false, length, slice_get, option_copied, IsSome, IfSome, IfNone};
 ghost use Rattle.n41_model.specs.Requests.{is_waiting};
 ghost use Rattle.n41_model.specs.Sessions.{passed};
-ghost use Rattle.n41_model.specs.Due.{goes_again};
+ghost use Rattle.n41_calls.specs.Due.{goes_again};
 ghost use Rattle.n41_view.specs.Due.{any_held, any_waiting, waits_held, any_owned, owns_held, is_free_slot, first_free, highest_in, goes_held, goes_slot};
 ghost use Rattle.n41_view.specs.Step.{has, holds, held_with, held_requests};
 ghost use Rattle.n41_view.specs.Causes.{is_old_held, any_old, doubts, any_doubt, is_changing};

@@ -1,7 +1,7 @@
 //! The next plan of a command that walks.
 
 ghost use Rattle.std.specs.Prelude.{◌≡◌, ℕ, Some, IfOk, take, is_some, option_copied};
-ghost use Rattle.n41_model.specs.Calls.{goal, last_of, list, make_dir, next_plan, remove, rename, walk_most, walk_or};
+ghost use Rattle.n41_calls.specs.Calls.{goal, last_of, list, make_dir, next_plan, remove, rename, walk_most, walk_or};
 ghost use Rattle.n41_due.specs.Order.{has_next};
 
 use n41_model::{Listed, Way};

@@ -8,7 +8,7 @@ use Rattle.n41_types.specs.declared.commands.Answer.TheVariants as says
 use Rattle.n41_types.specs.declared.commands.Value.{Value}
 use Rattle.n41_types.specs.declared.commands.Value.TheVariants as value
 use Rattle.hex.specs.Hex.{IsBytes}
-use Rattle.n41_model.specs.Text.{hex_or_dash, decimal_or_dash, mode_text, name_text}
+use Rattle.n41_calls.specs.Text.{hex_or_dash, decimal_or_dash, mode_text, name_text}
 use Rattle.n41_xdr.specs.Reading.{◌>>=◌}
 use Rattle.n41_words.specs.Words.{has_control}
 use Rattle.n41_words.specs.declared.fault.LineKind.{LineKind}

@@ -6,7 +6,7 @@ use Rattle.std.proofs.lemmas.Bool.{cases_Bool}
 use Rattle.hex.proofs.HexLemmas.{length-encode_with}
 use Rattle.std.specs.Fmt.{decimal}
 use Rattle.hex.specs.Hex.{IsBytes, encode_lower, lower_digits}
-use Rattle.n41_model.specs.Text.{hex_or_dash, decimal_or_dash, mode_text}
+use Rattle.n41_calls.specs.Text.{hex_or_dash, decimal_or_dash, mode_text}
 use Rattle.n41_xdr.specs.Reading.{◌>>=◌}
 use Rattle.n41_words.specs.Words.{has_control}
 use Rattle.n41_words.specs.declared.fault.LineKind.TheVariants as kind

@@ -4,7 +4,7 @@ use Rattle.std.specs.Prelude.{slice_index}
 use Rattle.std.proofs.lemmas.Bool.{cases_Bool}
 use Rattle.std.proofs.lemmas.Bool.Decides.{nat_tests}
 use Rattle.hex.specs.Hex.{IsBytes, upper_digits, encode_upper, encode_with}
-use Rattle.n41_model.specs.Text.{name_byte, name_text}
+use Rattle.n41_calls.specs.Text.{name_byte, name_text}
 use Rattle.n41_journal_words.specs.Names.{is_plain, plain, digit, pair, escaped, in_front, name_of}
 
 -- ---- digits

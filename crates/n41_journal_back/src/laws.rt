@@ -2,7 +2,7 @@ ghost use Rattle.std.specs.Prelude.{◌≡◌, ◌≤◌, List, ℕ, All, Ok, le
 ghost use Rattle.n41_journal.specs.declared.events.Event.{Event};
 ghost use Rattle.n41_script.specs.Scripts.{script_limit};
 ghost use Rattle.n41_journal_words.specs.Names.{name_of};
-ghost use Rattle.n41_model.specs.Text.{name_text};
+ghost use Rattle.n41_calls.specs.Text.{name_text};
 ghost use Rattle.hex.specs.Hex.{IsBytes};
 ghost use Rattle.n41_journal_text.specs.Text.{event_text, journal_lines};
 ghost use Rattle.n41_journal_reader.specs.Journals.{SaysEvent, IsJournal};

@@ -14,7 +14,7 @@ use Rattle.n41_words.specs.Numbers.{is_digit, is_decimal, is_octal, spelled}
 use Rattle.n41_words.specs.declared.fault.LineKind.{LineKind}
 use Rattle.n41_written.proofs.Words.{IsPlain}
 use Rattle.n41_written.proofs.ReadBack.{decimal_read, octal_read}
-use Rattle.n41_model.specs.Text.{hex_or_dash, decimal_or_dash, mode_text, name_byte, name_text}
+use Rattle.n41_calls.specs.Text.{hex_or_dash, decimal_or_dash, mode_text, name_byte, name_text}
 
 -- neither a space nor a control
 abbrev IsPlainByte : ℕ → Type 0

@@ -13,7 +13,7 @@ use Rattle.n41_journal.specs.declared.events.Cause.{Cause}
 use Rattle.n41_journal.specs.declared.events.Cause.TheVariants as cause
 use Rattle.n41_journal.specs.declared.events.Event.{Event}
 use Rattle.n41_journal.specs.declared.events.Event.TheVariants as event
-use Rattle.n41_model.specs.Text.{hex_or_dash, decimal_or_dash, mode_text, name_text, more_text, value_text}
+use Rattle.n41_calls.specs.Text.{hex_or_dash, decimal_or_dash, mode_text, name_text, more_text, value_text}
 use Rattle.hex.specs.Hex.{IsBytes}
 use Rattle.n41_words.specs.Lines.{is_empty, is_space}
 use Rattle.n41_words.specs.Words.{has_control}

@@ -11,7 +11,7 @@ use Rattle.n41_journal.specs.declared.events.Cause.{Cause}
 use Rattle.n41_journal.specs.declared.events.Cause.TheVariants as cause
 use Rattle.n41_journal.specs.declared.events.Event.{Event}
 use Rattle.n41_journal.specs.declared.events.Event.TheVariants as event
-use Rattle.n41_model.specs.Text.{hex_or_dash, decimal_or_dash, mode_text, name_text}
+use Rattle.n41_calls.specs.Text.{hex_or_dash, decimal_or_dash, mode_text, name_text}
 use Rattle.n41_requests.specs.Requests.{spelled}
 use Rattle.n41_replies.specs.Replies.{written}
 use Rattle.n41_cbmsg.specs.Calls.{written_call}

@@ -1,5 +1,5 @@
 -- What a reply does to the request that it answers.
-use Rattle.std.specs.Prelude.{ℕ, ◌==◌, Bool, true, false, ◌&&◌, ◌||◌, not, List, [], ◌∷◌, Option, Some, None, Result, Ok, Err, if◌then◌else◌, nat_le, is_some, is_none}
+use Rattle.std.specs.Prelude.{ℕ, ◌==◌, Bool, true, false, ◌&&◌, ◌||◌, not, List, [], ◌∷◌, length, Option, Some, None, Result, Ok, Err, if◌then◌else◌, nat_le, is_some, is_none}
 use Rattle.n41_types.specs.declared.attributes.Attrs.{Attrs}
 use Rattle.n41_types.specs.declared.identities.SessionId.{SessionId}
 use Rattle.n41_types.specs.declared.plans.Class.{Class}
@@ -35,6 +35,13 @@ is_delay s = s.0 == 10008
 
 abbrev pub is_grace : Status → Bool
 is_grace s = s.0 == 10013
+
+abbrev pub is_old_stateid : Status → Bool
+is_old_stateid s = s.0 == 10024
+
+-- BAD_STATEID, STALE_STATEID, EXPIRED, ADMIN_REVOKED, DELEG_REVOKED: what the stateid names is gone
+abbrev pub is_loss : Status → Bool
+is_loss s = (s.0 == 10025) || (s.0 == 10023) || (s.0 == 10011) || (s.0 == 10047) || (s.0 == 10087)
 
 abbrev pub is_not_bound : Status → Bool
 is_not_bound s = s.0 == 10055
@@ -84,17 +91,41 @@ abbrev pub tells_type_and_size : List Res → Bool
 tells_type_and_size (x ∷ res.GetAttr (Ok a) ∷ []) = is_some a.kind && is_some a.size
 tells_type_and_size _ = false
 
+-- WRITE tells that at most these bytes were written, and that they are on stable storage (own: a rule of the server).
+abbrev pub writes_within : ℕ → List Res → Bool
+writes_within n (x ∷ res.Write (Ok w) ∷ []) = nat_le w.count n && (w.committed == 2)
+writes_within n _ = false
+
 -- what is wanted of the results of a plan whose operations were all OK
 abbrev pub has_its_answer : Plan → List Res → Bool
 has_its_answer (plan.Stat _) xs = tells_type_and_size xs
+has_its_answer (plan.WriteBytes _ _ _ b) xs = writes_within (length b) xs
 has_its_answer _ xs = true
+
+-- GETFH is OK behind an OPEN that is (own: a rule of the server).
+abbrev pub is_half_open : List Res → Bool
+is_half_open (x ∷ res.Open (Ok o) ∷ res.GetFh (Err s) ∷ []) = true
+is_half_open _ = false
+
+-- the plan names an open record
+abbrev pub names_state : Plan → Bool
+names_state (plan.Read _ _ _ _) = true
+names_state (plan.Downgrade _ _ _) = true
+names_state (plan.CloseState _ _) = true
+names_state (plan.WriteBytes _ _ _ _) = true
+names_state (plan.Resize _ _ _) = true
+names_state _ = false
+
+-- No open record is ever lost yet.
+abbrev pub is_unlawful : Plan → Status → List Res → Bool
+is_unlawful p s xs = (is_ok s && not (has_its_answer p xs)) || is_half_open xs || (names_state p && is_loss s)
 
 -- only a retried request of which the server need not keep the reply may be told that it did not
 abbrev pub uncached_verdict : Plan → Bool → Verdict
 uncached_verdict p retried = if retried && is_reading (class_of p) then v.Uncached else v.Breach
 
 abbrev pub ran_verdict : Plan → Status → List Res → Verdict
-ran_verdict p s xs = if is_ok s && not (has_its_answer p xs) then v.Breach else v.Ran s
+ran_verdict p s xs = if is_unlawful p s xs then v.Breach else v.Ran s
 
 -- behind an OK of SEQUENCE: RETRY_UNCACHED_REP may come at the next operation too
 abbrev pub sequenced_verdict : Plan → Bool → Status → List Res → Verdict

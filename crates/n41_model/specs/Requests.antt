@@ -1,5 +1,5 @@
 -- What a journal says of connections, moments and requests. A journal is a list of events, the newest first.
-use Rattle.std.specs.Prelude.{ℕ, zero, suc, ◌+◌, ◌-◌, ◌==◌, Bool, true, false, ◌&&◌, ◌||◌, not, List, [], ◌∷◌, filter, Option, Some, None, if◌then◌else◌, is_some}
+use Rattle.std.specs.Prelude.{ℕ, zero, suc, ◌+◌, ◌-◌, ◌==◌, Bool, true, false, ◌&&◌, ◌||◌, not, List, [], ◌∷◌, length, filter, Option, Some, None, if◌then◌else◌, is_some}
 use Rattle.std.specs.List.{list_any}
 use Rattle.n41_types.specs.declared.plans.Plan.{Plan}
 use Rattle.n41_types.specs.declared.plans.Request.{Request}
@@ -212,6 +212,12 @@ abbrev pub bare_put_at : List Event → ℕ
 bare_put_at [] = 0
 bare_put_at (Put c p r ∷ js) = if is_bare r then moment js else bare_put_at js
 bare_put_at (e ∷ js) = bare_put_at js
+
+-- the place of the event by which the last new request on a slot was put
+abbrev pub begun : List Event → ℕ → ℕ
+begun [] n = 0
+begun (Put c p r ∷ js) n = if is_on r n && not (knows (outs js n) r.xid) then suc (length js) else begun js n
+begun (e ∷ js) n = begun js n
 
 -- A connection broke while the request that is out on the slot was unanswered: its last Put there had no reply.
 abbrev pub doubt : List Event → ℕ → Bool

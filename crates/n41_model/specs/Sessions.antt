@@ -1,5 +1,5 @@
 -- What a journal says of client ids, sessions and phases.
-use Rattle.std.specs.Prelude.{ℕ, zero, suc, ◌+◌, ◌-◌, ◌*◌, ◌==◌, ◌%◌, ◌^◌, min, max, Bool, true, false, ◌&&◌, ◌||◌, not, List, [], ◌∷◌, ◌++◌, length, Option, Some, None, Result, Ok, Err, if◌then◌else◌, nat_le, nat_lt, is_none}
+use Rattle.std.specs.Prelude.{ℕ, zero, suc, ◌+◌, ◌-◌, ◌*◌, ◌==◌, ◌%◌, ◌^◌, min, max, Bool, true, false, ◌&&◌, ◌||◌, not, List, [], ◌∷◌, ◌++◌, length, Option, Some, None, Result, Ok, Err, if◌then◌else◌, nat_le, nat_lt, is_none, is_some}
 use Rattle.n41_types.specs.declared.plans.Plan.{Plan}
 use Rattle.n41_types.specs.declared.plans.Plan.TheVariants as plan
 use Rattle.n41_types.specs.declared.plans.Request.{Request}
@@ -52,6 +52,12 @@ abbrev pub session : List Event → Option SessionMade
 session [] = None
 session (Took c p y ∷ js) = session_after (bare_verdict js y) (session js)
 session (e ∷ js) = session js
+
+-- how many sessions were made
+abbrev pub sessions : List Event → ℕ
+sessions [] = 0
+sessions (Took c p y ∷ js) = if is_some (made js y) then suc (sessions js) else sessions js
+sessions (e ∷ js) = sessions js
 
 abbrev pub slots_after : Option SessionMade → ℕ → ℕ
 slots_after None n = n

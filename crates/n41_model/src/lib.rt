@@ -2,12 +2,10 @@
 #![tactic(auto)]
 
 mod bare_verdicts;
-mod laws;
 mod verdicts;
 mod words;
 
-pub use laws::one_request_is_out;
 pub use verdicts::{gives_back, is_final, sequence_status};
 pub use words::{
-    BareVerdict, Item, KnownClient, Listed, Phase, Sent, Setup, Standing, Verdict, Way,
+    BareVerdict, Item, KnownClient, Listed, Phase, Sent, Setup, Stale, Standing, Verdict, Way,
 };

@@ -1,9 +1,12 @@
 ghost use Rattle.std.specs.Prelude.{◌≡◌};
-ghost use Rattle.n41_model.specs.Replies.{is_size_refusal, sequence_status, status_passes, is_final, status_refuses, gives_back, is_reading, repeats, tells_type_and_size, has_its_answer, uncached_verdict, ran_verdict, sequenced_verdict, refused_verdict, body_verdict, verdict_of, is_breach};
+ghost use Rattle.n41_model.specs.Replies.{is_size_refusal, sequence_status, status_passes, is_final, status_refuses, gives_back, is_reading, repeats, tells_type_and_size, writes_within, has_its_answer, is_half_open, names_state, is_loss, is_unlawful, uncached_verdict, ran_verdict, sequenced_verdict, refused_verdict, body_verdict, verdict_of, is_breach};
 
 use crate::words::Verdict;
 use n41_results::{Reply, ReplyBody, Res, Sequenced};
 use n41_types::{Class, Plan, Request, SlotUse, Status};
+
+/// That what was written is on stable storage (RFC 8881, stable_how4).
+const FILE_SYNC: u32 = 2;
 
 /// Whether a size is why the request was refused.
 fn is_size_refusal(status: Status) -> bool
@@ -71,14 +74,68 @@ fn tells_type_and_size(rest: &[Res]) -> bool
     }
 }
 
+/// Whether WRITE tells that at most so many bytes were written, and that they are on stable storage.
+fn writes_within(most: usize, rest: &[Res]) -> bool
+    ensures { result ≡ writes_within most rest.now }
+{
+    match rest {
+        [_, Res::Write(Ok(written))] => {
+            written.count as usize <= most && written.committed == FILE_SYNC
+        }
+        _ => false,
+    }
+}
+
 /// Whether results that were all OK answer the plan.
 fn has_its_answer(plan: &Plan, rest: &[Res]) -> bool
     ensures { result ≡ has_its_answer plan.now rest.now }
 {
     match plan {
         Plan::Stat { .. } => tells_type_and_size(rest),
+        Plan::WriteBytes { bytes, .. } => writes_within(bytes.len(), rest),
         _ => true,
     }
+}
+
+/// Whether an OPEN was answered with OK, and the GETFH behind it was not.
+fn is_half_open(rest: &[Res]) -> bool
+    ensures { result ≡ is_half_open rest.now }
+{
+    matches!(rest, [_, Res::Open(Ok(_)), Res::GetFh(Err(_))])
+}
+
+/// Whether the plan names an open record.
+fn names_state(plan: &Plan) -> bool
+    ensures { result ≡ names_state plan.now }
+{
+    matches!(
+        plan,
+        Plan::Read { .. }
+            | Plan::Downgrade { .. }
+            | Plan::CloseState { .. }
+            | Plan::WriteBytes { .. }
+            | Plan::Resize { .. }
+    )
+}
+
+/// Whether what a stateid names is gone.
+fn is_loss(status: Status) -> bool
+    ensures { result ≡ is_loss status }
+{
+    status == Status::BAD_STATEID
+        || status == Status::STALE_STATEID
+        || status == Status::EXPIRED
+        || status == Status::ADMIN_REVOKED
+        || status == Status::DELEG_REVOKED
+}
+
+/// Whether no server that keeps the rules answers these results.
+fn is_unlawful(plan: &Plan, status: Status, rest: &[Res]) -> bool
+    ensures { result ≡ is_unlawful plan.now status rest.now }
+{
+    (status == Status::OK && !has_its_answer(plan, rest))
+        || is_half_open(rest)
+        || (names_state(plan) && is_loss(status))
 }
 
 /// The verdict where the server tells that it did not keep the reply.
@@ -96,7 +153,7 @@ fn uncached_verdict(plan: &Plan, retried: bool) -> Verdict
 fn ran_verdict(plan: &Plan, status: Status, rest: &[Res]) -> Verdict
     ensures { result ≡ ran_verdict plan.now status rest.now }
 {
-    if status == Status::OK && !has_its_answer(plan, rest) {
+    if is_unlawful(plan, status, rest) {
         Verdict::Breach
     } else {
         Verdict::Ran(status)

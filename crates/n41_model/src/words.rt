@@ -113,6 +113,15 @@ pub struct Listed {
     pub verifier: Verifier,
 }
 
+/// What a close goes by that was told that its stateid is outdated (OLD_STATEID; RFC 8881, section 8.2.2).
+#[derive(Clone, Copy, Debug, PartialEq, Eq)]
+pub struct Stale {
+    /// The place of the reply in the journal.
+    pub place: u64,
+    /// No open by the owner of its handle was out then.
+    pub alone: bool,
+}
+
 /// How far a command has come (own).
 #[derive(Drop, PartialEq, Eq)]
 pub struct Way {
@@ -124,6 +133,10 @@ pub struct Way {
     pub old: Option<Place>,
     /// What a listing has told, while it goes on.
     pub listed: Option<Listed>,
+    /// The handle that the command's label named when it began, or that the command has opened.
+    pub handle: Option<u64>,
+    /// Why a close thinks again.
+    pub stale: Option<Stale>,
 }
 
 /// A kind of request that may be due.

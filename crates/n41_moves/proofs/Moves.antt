@@ -12,10 +12,10 @@ use Rattle.n41_journal.specs.declared.events.Event.{Event}
 use Rattle.n41_journal.specs.declared.events.Event.TheVariants.{Put, Took}
 use Rattle.n41_model.specs.declared.words.Sent.TheVariants.{Waits}
 use Rattle.n41_model.specs.declared.words.Setup.{Setup}
-use Rattle.n41_model.specs.Kept.{MayTake, IsAwaited, WaitsBare, WaitsOn}
+use Rattle.n41_calls.specs.Kept.{MayTake, IsAwaited, WaitsBare, WaitsOn}
 use Rattle.n41_model.specs.Replies.{is_final, gives_back, sequence_status}
 use Rattle.n41_model.specs.Requests.{request, bares, bare, bare_waits, outs, out, used, sent, sent_after, made, knows, is_on, is_use_of, is_bare, is_bare_use, without, first, moment}
-use Rattle.n41_model.proofs.Slots.{Seats}
+use Rattle.n41_calls.proofs.Slots.{Seats}
 use Rattle.n41_view.proofs.Lists.{one_on, knows_is, without_is, first_on, first_bare}
 use Rattle.n41_view.proofs.Known.{Known}
 use Rattle.n41_view.proofs.Found.{no_use, use_on, fits_xid, found_bare, found_on, only_on, not_on}

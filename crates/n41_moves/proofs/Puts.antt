@@ -16,12 +16,12 @@ use Rattle.n41_model.specs.declared.words.Phase.TheVariants.{Running, Completing
 use Rattle.n41_model.specs.declared.words.Sent.{Sent}
 use Rattle.n41_model.specs.declared.words.Sent.TheVariants.{Waits}
 use Rattle.n41_model.specs.declared.words.Setup.{Setup}
-use Rattle.n41_model.specs.Answers.{round_limit}
+use Rattle.n41_calls.specs.Answers.{round_limit}
 use Rattle.n41_model.specs.Requests.{bares, bare, bare_waits, outs, out, used, sent, moment, standing, rounds}
 use Rattle.n41_model.specs.Sessions.{session, slots, free_slot, is_free, is_empty, phase, put_off, passed, bound, target, highest, next_xid, completed}
-use Rattle.n41_model.specs.Calls.{plan_next, is_ready}
-use Rattle.n41_model.specs.Due.{due, item_due, with_plan, on_free, on_free_slot, slot_request, bare_with, bare_due, bare_request, goes_again, finishing, is_dead, is_running, is_session, any_waits, any_own, step_plan, own_plan, own_plan_in, destroy_plan, may_retry, may_step, may_own, may_begin, may_destroy, is_open}
-use Rattle.n41_model.proofs.Tests.{and_true, not_true, only_if_some, empty_is, free_is}
+use Rattle.n41_calls.specs.Calls.{plan_next, is_ready}
+use Rattle.n41_calls.specs.Due.{due, item_due, with_plan, on_free, on_free_slot, slot_request, bare_with, bare_due, bare_request, goes_again, finishing, is_dead, is_running, is_session, any_waits, any_own, step_plan, own_plan, own_plan_in, destroy_plan, may_retry, may_step, may_own, may_begin, may_destroy, is_open}
+use Rattle.n41_calls.proofs.Tests.{and_true, not_true, only_if_some, empty_is, free_is}
 use Rattle.n41_moves.proofs.Suits.{is_own}
 
 -- the request without a slot goes again

@@ -14,12 +14,12 @@ use Rattle.n41_model.specs.declared.words.BareVerdict.{BareVerdict}
 use Rattle.n41_model.specs.declared.words.BareVerdict.TheVariants as b
 use Rattle.n41_model.specs.declared.words.Sent.TheVariants.{Never, Waits, Delayed, Unbound}
 use Rattle.n41_model.specs.declared.words.Setup.{Setup}
-use Rattle.n41_model.specs.Answers.{round_limit}
-use Rattle.n41_model.specs.Kept.{Kept, May}
+use Rattle.n41_calls.specs.Answers.{round_limit}
+use Rattle.n41_calls.specs.Kept.{Kept, May}
 use Rattle.n41_model.specs.Replies.{bare_verdict_of, is_final, gives_back, is_delay, is_not_bound, is_size_refusal, sequence_status, status_passes, status_refuses}
 use Rattle.n41_model.specs.Requests.{bares, outs, out, used, sent, sent_after, made, session_in, bare_verdict, is_bare, is_bare_use, is_on, standing, dials, rounds, moment}
 use Rattle.n41_model.specs.Sessions.{slots, slots_after}
-use Rattle.n41_model.proofs.Slots.{Seats, seats}
+use Rattle.n41_calls.proofs.Slots.{Seats, seats}
 use Rattle.n41_moves.proofs.Bares.{is_create, may_be, may_be_so}
 use Rattle.n41_view.proofs.Found.{no_use, use_on}
 use Rattle.n41_view.proofs.Known.{Known, known}

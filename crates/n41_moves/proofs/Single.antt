@@ -22,13 +22,13 @@ use Rattle.n41_model.specs.declared.words.Phase.TheVariants.{Down, Binding, Sess
 use Rattle.n41_model.specs.declared.words.Setup.{Setup}
 use Rattle.n41_model.specs.declared.words.Verdict.{Verdict}
 use Rattle.n41_model.specs.declared.words.Verdict.TheVariants as v
-use Rattle.n41_model.specs.Calls.{command, all_answered}
-use Rattle.n41_model.specs.Due.{finishing, phase_plan, bind_in, create_in, destroy_in}
-use Rattle.n41_model.specs.Kept.{Kept, May}
+use Rattle.n41_calls.specs.Calls.{command, all_answered}
+use Rattle.n41_calls.specs.Due.{finishing, phase_plan, bind_in, create_in, destroy_in}
+use Rattle.n41_calls.specs.Kept.{Kept, May}
 use Rattle.n41_model.specs.Replies.{bare_verdict_of, is_final}
 use Rattle.n41_model.specs.Requests.{bares, bare, out, made, session_in, bare_verdict, verdict, quit, is_bare, is_bare_use, first}
 use Rattle.n41_model.specs.Sessions.{session, session_after, client, phase, phases, plan_of, took_phase, slot_phase, bare_phase, worked, dialed_phase, broke_phase, is_lease_time}
-use Rattle.n41_model.proofs.Slots.{Seats, seats}
+use Rattle.n41_calls.proofs.Slots.{Seats, seats}
 use Rattle.n41_moves.proofs.Bares.{is_exchange, is_create, is_end, may_be, may_be_so}
 use Rattle.n41_view.proofs.Fresh.{Placed, put_placed}
 use Rattle.n41_view.proofs.Found.{no_use, fits_xid}

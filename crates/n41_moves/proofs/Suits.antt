@@ -17,7 +17,7 @@ use Rattle.n41_types.specs.Plans.{class_of}
 use Rattle.n41_results.specs.declared.sessions.SessionMade.{SessionMade}
 use Rattle.n41_model.specs.declared.words.Listed.{Listed}
 use Rattle.n41_model.specs.declared.words.Way.{Way}
-use Rattle.n41_model.specs.Calls.{walk_or, walk_most, list_size, make_dir, remove, rename, list, goal, ahead, last_of, next_plan, is_plan}
+use Rattle.n41_calls.specs.Calls.{walk_or, walk_most, list_size, make_dir, remove, rename, list, goal, ahead, last_of, next_plan, is_plan}
 use Rattle.n41_runs.specs.Effects.{change_of, is_changing}
 use Rattle.n41_runs.specs.Server.{is_session}
 

@@ -22,11 +22,11 @@ use Rattle.n41_journal.specs.declared.events.Event.TheVariants.{Began, Put, Took
 use Rattle.n41_model.specs.declared.words.BareVerdict.{BareVerdict}
 use Rattle.n41_model.specs.declared.words.BareVerdict.TheVariants as b
 use Rattle.n41_model.specs.declared.words.Setup.{Setup}
-use Rattle.n41_model.specs.Due.{finishing}
-use Rattle.n41_model.specs.Kept.{Kept, May}
+use Rattle.n41_calls.specs.Due.{finishing}
+use Rattle.n41_calls.specs.Kept.{Kept, May}
 use Rattle.n41_model.specs.Replies.{is_delay, is_wide_enough, delayed_or_breach, exchange_verdict, create_verdict, bind_verdict, destroy_session_verdict, destroy_client_verdict, bare_body_verdict, bare_verdict_of}
 use Rattle.n41_model.specs.Requests.{made, session_in, bare_verdict, is_bare, is_bare_use}
-use Rattle.n41_model.proofs.Slots.{seats}
+use Rattle.n41_calls.proofs.Slots.{seats}
 use Rattle.n41_moves.proofs.Bares.{is_end}
 use Rattle.n41_view.proofs.Known.{known}
 use Rattle.n41_moves.proofs.Moves.{takes_is}

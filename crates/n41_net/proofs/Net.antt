@@ -17,10 +17,10 @@ use Rattle.n41_journal.specs.declared.events.Event.{Event}
 use Rattle.n41_journal.specs.declared.events.Event.TheVariants.{Began, Put, Took, CbTook, CbPut, Dialed, DialFailed, Broke, Ticked, Answered, Quit}
 use Rattle.n41_model.specs.declared.words.Sent.TheVariants.{Waits}
 use Rattle.n41_model.specs.declared.words.Setup.{Setup}
-use Rattle.n41_model.specs.Kept.{Kept, May}
+use Rattle.n41_calls.specs.Kept.{Kept, May}
 use Rattle.n41_model.specs.Replies.{is_final, sequence_status}
 use Rattle.n41_model.specs.Requests.{request, bares, bare, bare_waits, outs, out, sent, made, is_bare, is_bare_use, is_on, standing, first, sent_after, moment}
-use Rattle.n41_model.proofs.Slots.{Seats, seats}
+use Rattle.n41_calls.proofs.Slots.{Seats, seats}
 use Rattle.n41_view.proofs.Fresh.{Placed, put_placed}
 use Rattle.n41_view.proofs.Found.{no_use, not_bare}
 use Rattle.n41_view.proofs.Known.{Known, known, put_out_bare}

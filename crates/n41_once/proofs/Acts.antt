@@ -24,7 +24,7 @@ use Rattle.n41_results.specs.declared.shapes.Shape.{Shape}
 use Rattle.n41_results.specs.Results.{ok, operation_of, status_of}
 use Rattle.n41_results.specs.Shapes.{put_of, operations_of, behind, asked_of, shape_from, shape_of, misfit, nothing_after, attr_or, unasked_in, body_shape}
 use Rattle.n41_model.specs.declared.words.Listed.{Listed}
-use Rattle.n41_model.specs.Calls.{value_of, body_value}
+use Rattle.n41_calls.specs.Calls.{value_of, body_value}
 use Rattle.n41_model.specs.Replies.{is_ok, body_verdict, verdict_of}
 use Rattle.n41_moves.proofs.Suits.{is_dir_change, is_walk}
 use Rattle.n41_net.proofs.Verdicts.{is_ran}

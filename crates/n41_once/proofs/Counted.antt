@@ -11,10 +11,10 @@ use Rattle.n41_types.specs.declared.plans.SlotUse.{SlotUse}
 use Rattle.n41_types.specs.declared.statuses.Status.{Status}
 use Rattle.n41_results.specs.declared.replies.ReplyBody.{ReplyBody}
 use Rattle.n41_model.specs.declared.words.Verdict.TheVariants as v
-use Rattle.n41_model.specs.Calls.{Call, call, command, number}
+use Rattle.n41_calls.specs.Calls.{Call, call, command, number}
 use Rattle.n41_model.specs.Replies.{is_ok, body_verdict}
 use Rattle.n41_model.specs.Requests.{out, used}
-use Rattle.n41_model.specs.Text.{answer_to}
+use Rattle.n41_calls.specs.Text.{answer_to}
 use Rattle.n41_once.proofs.Acts.{acts_in}
 use Rattle.n41_served.proofs.Served.{IsOn, IsCopy}
 use Rattle.n41_moves.proofs.Suits.{is_dir_change}

@@ -12,7 +12,7 @@ use Rattle.n41_types.specs.declared.statuses.Status.{Status}
 use Rattle.n41_results.specs.declared.replies.ReplyBody.{ReplyBody}
 use Rattle.n41_journal.specs.declared.events.Event.{Event}
 use Rattle.n41_model.specs.declared.words.Verdict.TheVariants as v
-use Rattle.n41_model.specs.Calls.{Call, call, command, is_caller, number, put_call}
+use Rattle.n41_calls.specs.Calls.{Call, call, command, is_caller, number, put_call}
 use Rattle.n41_model.specs.Replies.{body_verdict, is_ok}
 use Rattle.n41_model.specs.Requests.{slot_number, first, out, used}
 use Rattle.n41_once.proofs.Acts.{acts_in}
@@ -29,7 +29,7 @@ use Rattle.n41_runs.specs.Steps.{client, message, messages}
 use Rattle.n41_results.specs.declared.sessions.SessionMade.{SessionMade}
 use Rattle.n41_journal.specs.declared.events.Event.TheVariants.{Put}
 use Rattle.n41_model.specs.declared.words.Setup.{Setup}
-use Rattle.n41_model.proofs.Slots.{Seats}
+use Rattle.n41_calls.proofs.Slots.{Seats}
 use Rattle.n41_told.proofs.Chosen.{new_owner, owner_ready}
 use Rattle.n41_told.proofs.Ledgers.{NewLedger, SameLedger, again_moves, bare_moves, new_moves}
 use Rattle.n41_moves.proofs.Moves.{PutsAgain, PutsNew, again_out, bare_on_none, bare_outs, puts_new, slot_is}

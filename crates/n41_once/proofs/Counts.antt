@@ -16,10 +16,10 @@ use Rattle.n41_types.specs.declared.statuses.Status.{Status}
 use Rattle.n41_results.specs.declared.replies.ReplyBody.{ReplyBody}
 use Rattle.n41_journal.specs.declared.events.Event.{Event}
 use Rattle.n41_model.specs.declared.words.Verdict.TheVariants as v
-use Rattle.n41_model.specs.Calls.{answered_call, began_on, call, command, either, fresh_call, given as given_answer, number, owner, pause_given, way_of}
+use Rattle.n41_calls.specs.Calls.{answered_call, began_on, call, command, either, fresh_call, given as given_answer, number, owner, pause_given, way_of}
 use Rattle.n41_model.specs.Replies.{body_verdict, is_ok}
 use Rattle.n41_model.specs.Requests.{bares, doubt, moment, out, rounds, sent, used}
-use Rattle.n41_model.specs.Text.{answer_to}
+use Rattle.n41_calls.specs.Text.{answer_to}
 use Rattle.n41_once.proofs.Acts.{acts_in, run_acts}
 use Rattle.n41_served.proofs.Served.{IsCopy, IsOn, Ran, Served, body_in}
 use Rattle.n41_moves.proofs.Suits.{change_class, is_dir_change}
@@ -35,9 +35,9 @@ use Rattle.n41_runs.specs.Steps.{client, end_status, fate, ran_reply}
 use Rattle.n41_types.specs.declared.commands.Command.TheVariants as asks
 use Rattle.n41_journal.specs.declared.events.Event.TheVariants.{Answered, Began, Broke, CbPut, CbTook, DialFailed, Dialed, Put, Quit, Ticked, Took}
 use Rattle.n41_model.specs.declared.words.Setup.{Setup}
-use Rattle.n41_model.specs.Answers.{HasCause, UnreachableCause, round_limit}
-use Rattle.n41_model.specs.Kept.{Kept, May, MayAnswer, MayBegin}
-use Rattle.n41_model.proofs.Slots.{Seats, seats}
+use Rattle.n41_calls.specs.Answers.{HasCause, UnreachableCause, round_limit}
+use Rattle.n41_calls.specs.Kept.{Kept, May, MayAnswer, MayBegin}
+use Rattle.n41_calls.proofs.Slots.{Seats, seats}
 use Rattle.n41_told.proofs.Chosen.{bare_owner}
 use Rattle.n41_view.proofs.Found.{no_use}
 use Rattle.n41_view.proofs.Known.{known}

@@ -1,8 +1,8 @@
 -- The law.
 use Rattle.std.proofs.Common.{List}
 use Rattle.n41_model.specs.declared.words.Setup.{Setup}
-use Rattle.n41_model.specs.Kept.{Kept}
-use Rattle.n41_model.proofs.Slots.{keeps_one_out}
+use Rattle.n41_calls.specs.Kept.{Kept}
+use Rattle.n41_calls.proofs.Slots.{keeps_one_out}
 use Rattle.n41_once.proofs.Counted.{Counted}
 use Rattle.n41_once.proofs.Counts.{counted}
 use Rattle.n41_told.proofs.Settled.{Settled, settled}

@@ -13,7 +13,7 @@ use Rattle.n41_results.specs.declared.replies.ReplyBody.{ReplyBody}
 use Rattle.n41_journal.specs.declared.events.Event.{Event}
 use Rattle.n41_model.specs.declared.words.Verdict.{Verdict}
 use Rattle.n41_model.specs.declared.words.Verdict.TheVariants as v
-use Rattle.n41_model.specs.Calls.{Call, call, command, is_caller, number, owner, answer_in, done_with, value_of, is_again}
+use Rattle.n41_calls.specs.Calls.{Call, call, command, is_caller, number, owner, answer_in, done_with, value_of, is_again}
 use Rattle.n41_model.specs.Replies.{gives_back, is_breach, is_final, is_ok, verdict_of}
 use Rattle.n41_model.specs.Requests.{made, out, retried, used}
 use Rattle.n41_once.proofs.Acts.{acts_in}
@@ -32,9 +32,9 @@ use Rattle.n41_results.specs.declared.replies.Reply.{Reply}
 use Rattle.n41_results.specs.declared.sessions.SessionMade.{SessionMade}
 use Rattle.n41_journal.specs.declared.events.Event.TheVariants.{Answered, Began, Broke, CbPut, CbTook, DialFailed, Dialed, Put, Quit, Ticked, Took}
 use Rattle.n41_model.specs.declared.words.Setup.{Setup}
-use Rattle.n41_model.specs.Due.{finishing}
-use Rattle.n41_model.specs.Kept.{Kept}
-use Rattle.n41_model.proofs.Slots.{Seats}
+use Rattle.n41_calls.specs.Due.{finishing}
+use Rattle.n41_calls.specs.Kept.{Kept}
+use Rattle.n41_calls.proofs.Slots.{Seats}
 use Rattle.n41_told.proofs.Ledgers.{took_call_bare, took_call_on}
 use Rattle.n41_moves.proofs.Moves.{TakesOn, bare_took, bare_took_used, took_out, took_used}
 use Rattle.n41_moves.proofs.Said.{stays, used_kept, gives_final, last_put}

@@ -3,8 +3,8 @@ use Rattle.std.proofs.Common.{◌≡◌, ℕ, List, Option, Result, take, drop, 
 use Rattle.std.specs.Prelude.{IfErr}
 use Rattle.std.specs.Io.KnownBytes.{append_known}
 use Rattle.n41_journal.specs.declared.events.Event.{Event}
-use Rattle.n41_model.specs.Answers.{breach_at}
-use Rattle.n41_model.specs.Text.{text}
+use Rattle.n41_calls.specs.Answers.{breach_at}
+use Rattle.n41_calls.specs.Text.{text}
 use Rattle.n41_report.specs.Laws.{IsTextOfRun}
 use Rattle.n41_report.specs.Text.{script_lines, script_text}
 use Rattle.n41_script.specs.declared.script.Script.{Script}

@@ -4,9 +4,9 @@ use Rattle.std.proofs.lemmas.Bool.Decides.{nat_tests}
 use Rattle.std.specs.Prelude.{Result, Ok, Err, OnOk, OnErr, nat_le}
 use Rattle.n41_journal.specs.declared.events.Event.{Event}
 use Rattle.n41_model.specs.declared.words.Setup.{Setup}
-use Rattle.n41_model.specs.Answers.{breach_at, round_limit}
-use Rattle.n41_model.specs.Kept.{Kept}
-use Rattle.n41_model.specs.OneOut.{KeepsOneOut}
+use Rattle.n41_calls.specs.Answers.{breach_at, round_limit}
+use Rattle.n41_calls.specs.Kept.{Kept}
+use Rattle.n41_calls.specs.OneOut.{KeepsOneOut}
 use Rattle.n41_model.specs.Requests.{rounds}
 use Rattle.n41_runs.specs.Good.{RunsAreGood}
 use Rattle.n41_script.specs.declared.script.Script.{Script}

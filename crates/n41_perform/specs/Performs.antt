@@ -5,11 +5,11 @@ use Rattle.std.specs.Io.KnownBytes.{append_known}
 use Rattle.n41_xdr.specs.Spelling.{hyper}
 use Rattle.n41_journal.specs.declared.events.Event.{Event}
 use Rattle.n41_model.specs.declared.words.Setup.{Setup}
-use Rattle.n41_model.specs.Answers.{breach_at, round_limit}
-use Rattle.n41_model.specs.Kept.{Kept}
-use Rattle.n41_model.specs.OneOut.{OneOut}
+use Rattle.n41_calls.specs.Answers.{breach_at, round_limit}
+use Rattle.n41_calls.specs.Kept.{Kept}
+use Rattle.n41_calls.specs.OneOut.{OneOut}
 use Rattle.n41_model.specs.Requests.{rounds}
-use Rattle.n41_model.specs.Text.{text}
+use Rattle.n41_calls.specs.Text.{text}
 use Rattle.n41_runs.specs.Good.{Good}
 use Rattle.n41_runs.specs.Rules.{Legal}
 use Rattle.n41_runs.specs.declared.steps.Step.{Step}

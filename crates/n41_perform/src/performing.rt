@@ -3,7 +3,7 @@ ghost use Rattle.std.specs.Prelude.{◌≡◌, ◌≤◌, ℕ, Bool, [], length,
 ghost use Rattle.n41_link.specs.Counts.{Counts};
 ghost use Rattle.n41_tellable.specs.Tellable.{AllTellable};
 ghost use Rattle.n41_model.specs.declared.words.Setup.{Setup as SetupValue};
-ghost use Rattle.n41_model.specs.Answers.{breach_at};
+ghost use Rattle.n41_calls.specs.Answers.{breach_at};
 ghost use Rattle.n41_desk.specs.Journals.{moments};
 ghost use Rattle.n41_desk.specs.Lines.{AreWires};
 ghost use Rattle.n41_desk.specs.Moments.{AreGiven, CountsDials};
@@ -17,7 +17,7 @@ use crate::running::{Ran, run_script};
 use n41_core::Packet;
 use n41_journal::Journal;
 use n41_link::{Clock, Dialer, Sink, Source};
-use n41_model::one_request_is_out;
+use n41_calls::one_request_is_out;
 use n41_once::a_change_takes_effect_once;
 use n41_script::Script;
 use n41_wire::Wire;

@@ -2,7 +2,7 @@
 ghost use Rattle.std.specs.Prelude.{◌≡◌, ◌≤◌, ℕ, [], length, Some, None, OnOk, OnErr, IsTrue};
 ghost use Rattle.n41_tellable.specs.Tellable.{AllTellable};
 ghost use Rattle.n41_model.specs.declared.words.Setup.{Setup as SetupValue};
-ghost use Rattle.n41_model.specs.Answers.{breach_at};
+ghost use Rattle.n41_calls.specs.Answers.{breach_at};
 ghost use Rattle.n41_model.specs.Requests.{rounds as silent_rounds};
 ghost use Rattle.n41_desk.specs.Desks.{desk_state, desk_dialer, desk_clock, Holds};
 ghost use Rattle.n41_desk.specs.Journals.{moments};

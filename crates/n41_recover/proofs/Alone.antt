@@ -18,12 +18,12 @@ use Rattle.n41_model.specs.declared.words.Setup.{Setup}
 use Rattle.n41_model.specs.Replies.{is_final}
 use Rattle.n41_model.specs.Requests.{outs, out, bares, bare, bare_waits, moment, made, is_on, is_bare, has_xid}
 use Rattle.n41_model.specs.Sessions.{session, slots, free_slot, next_xid, phase, put_off, passed, is_lease_time, is_empty}
-use Rattle.n41_model.specs.Calls.{command, call, plan_next, owner}
+use Rattle.n41_calls.specs.Calls.{command, call, plan_next, owner}
 use Rattle.n41_recover.proofs.Plans.{NotLease, next_not}
-use Rattle.n41_model.specs.Kept.{Kept, May}
-use Rattle.n41_model.specs.Due.{item_due, with_plan, on_free, on_free_slot, bare_with, bare_due, step_plan, own_plan, destroy_plan, finishing, own_from, any_own, may_retry, may_step, may_own, may_begin, may_destroy, is_open}
-use Rattle.n41_model.proofs.Slots.{Seats, seats}
-use Rattle.n41_model.proofs.Tests.{only_if_some, with_plan_some}
+use Rattle.n41_calls.specs.Kept.{Kept, May}
+use Rattle.n41_calls.specs.Due.{item_due, with_plan, on_free, on_free_slot, bare_with, bare_due, step_plan, own_plan, destroy_plan, finishing, own_from, any_own, may_retry, may_step, may_own, may_begin, may_destroy, is_open}
+use Rattle.n41_calls.proofs.Slots.{Seats, seats}
+use Rattle.n41_calls.proofs.Tests.{only_if_some, with_plan_some}
 use Rattle.n41_view.proofs.Lists.{empty_is_none, first_bare}
 use Rattle.n41_view.proofs.Fresh.{Placed, put_placed}
 use Rattle.n41_view.proofs.Known.{Known, known, put_out, put_same_on}

@@ -12,9 +12,9 @@ use Rattle.n41_model.specs.declared.words.Setup.{Setup}
 use Rattle.n41_model.specs.Replies.{is_final}
 use Rattle.n41_model.specs.Requests.{outs, out, made, is_on, is_bare, slot_number, without, first, has_xid}
 use Rattle.n41_model.specs.Sessions.{phase, is_lease_time}
-use Rattle.n41_model.specs.Calls.{owner, ledger, chosen, in_running, is_new}
-use Rattle.n41_model.specs.Kept.{Kept, May}
-use Rattle.n41_model.proofs.Slots.{Seats, seats}
+use Rattle.n41_calls.specs.Calls.{owner, ledger, chosen, in_running, is_new}
+use Rattle.n41_calls.specs.Kept.{Kept, May}
+use Rattle.n41_calls.proofs.Slots.{Seats, seats}
 use Rattle.n41_view.specs.Step.{has}
 use Rattle.n41_view.proofs.Lists.{one_on, without_is}
 use Rattle.n41_view.proofs.Fresh.{Placed, put_placed}

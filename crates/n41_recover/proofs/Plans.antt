@@ -23,7 +23,7 @@ use Rattle.n41_model.specs.declared.words.Verdict.TheVariants as v
 use Rattle.n41_model.specs.Replies.{is_breach, is_ok, is_delay, is_not_bound, is_uncached, is_size_refusal, is_reading, has_its_answer, repeats, sequenced_verdict, body_verdict, bare_body_verdict}
 use Rattle.n41_model.specs.Requests.{moment}
 use Rattle.n41_model.specs.Sessions.{is_lease_time, session, slot_phase}
-use Rattle.n41_model.specs.Calls.{Call, command, ahead, goal, last_of, list, make_dir, remove, rename, next_plan, walk_most, list_size, walk_or, is_plan, is_ready_call, chosen, sooner, in_running}
+use Rattle.n41_calls.specs.Calls.{Call, command, ahead, goal, last_of, list, make_dir, remove, rename, next_plan, walk_most, list_size, walk_or, is_plan, is_ready_call, chosen, sooner, in_running}
 use Rattle.n41_recover.specs.Recovery.{kind_of}
 use Rattle.n41_recover.specs.Step.{kind_verdict, told_run, told_verdict}
 

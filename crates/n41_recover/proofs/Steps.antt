@@ -14,12 +14,12 @@ use Rattle.n41_model.specs.declared.words.Phase.TheVariants.{Down, Binding, Sess
 use Rattle.n41_model.specs.declared.words.Setup.{Setup}
 use Rattle.n41_model.specs.declared.words.Verdict.{Verdict}
 use Rattle.n41_model.specs.declared.words.Verdict.TheVariants as v
-use Rattle.n41_model.specs.Answers.{breaks}
-use Rattle.n41_model.specs.Kept.{Kept, May, MayTake, IsAwaited}
+use Rattle.n41_calls.specs.Answers.{breaks}
+use Rattle.n41_calls.specs.Kept.{Kept, May, MayTake, IsAwaited}
 use Rattle.n41_model.specs.Replies.{is_breach, is_bare_breach, verdict_of, bare_verdict_of}
 use Rattle.n41_model.specs.Requests.{request, bares, bare, outs, out, is_on, is_bare, retried, verdict, bare_verdict}
 use Rattle.n41_model.specs.Sessions.{client, session, phases, took_phase, plan_of, slot_phase, bare_phase, session_after, client_after, worked, is_lease_time}
-use Rattle.n41_model.proofs.Slots.{Seats, seats}
+use Rattle.n41_calls.proofs.Slots.{Seats, seats}
 use Rattle.n41_view.specs.Step.{Said, has, took_bare, reply_phase}
 use Rattle.n41_view.proofs.Lists.{first_on, first_bare}
 use Rattle.n41_view.proofs.Fresh.{put_placed}

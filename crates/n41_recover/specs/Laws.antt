@@ -3,8 +3,8 @@ use Rattle.std.specs.Prelude.{◌≡◌, Bool, false, List, [], ◌∷◌, if◌
 use Rattle.n41_journal.specs.declared.events.Event.{Event}
 use Rattle.n41_journal.specs.declared.events.Event.TheVariants.{Took}
 use Rattle.n41_model.specs.declared.words.Setup.{Setup}
-use Rattle.n41_model.specs.Answers.{breaks}
-use Rattle.n41_model.specs.Kept.{Kept}
+use Rattle.n41_calls.specs.Answers.{breaks}
+use Rattle.n41_calls.specs.Kept.{Kept}
 use Rattle.n41_model.specs.Requests.{verdict, bare_verdict}
 use Rattle.n41_model.specs.Sessions.{phase}
 use Rattle.n41_recover.specs.Recovery.{Recovery, recovery}

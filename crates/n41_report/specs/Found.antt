@@ -4,7 +4,7 @@ use Rattle.std.specs.Option.{option_map, unwrap_or}
 use Rattle.std.specs.HashMap.{HashMap, get}
 use Rattle.n41_types.specs.declared.commands.Answer.{Answer}
 use Rattle.n41_journal.specs.declared.events.Event.{Event}
-use Rattle.n41_model.specs.Text.{answer_to}
+use Rattle.n41_calls.specs.Text.{answer_to}
 use Rattle.n41_report.specs.declared.found.Asked.{Asked}
 use Rattle.n41_report.specs.declared.found.Found.{Found}
 use Rattle.n41_report.specs.declared.numbers.Numbers.{Numbers}

@@ -1,8 +1,8 @@
 -- What the printed text is for a run.
 use Rattle.std.specs.Prelude.{◌≡◌, List}
 use Rattle.n41_journal.specs.declared.events.Event.{Event}
-use Rattle.n41_model.specs.Answers.{breach_at}
-use Rattle.n41_model.specs.Text.{text}
+use Rattle.n41_calls.specs.Answers.{breach_at}
+use Rattle.n41_calls.specs.Text.{text}
 use Rattle.n41_script.specs.declared.script.Script.{Script}
 use Rattle.n41_report.specs.Text.{script_lines, script_text}
 

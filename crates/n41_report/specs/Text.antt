@@ -4,7 +4,7 @@ use Rattle.std.specs.Fmt.{decimal}
 use Rattle.std.specs.List.{count_by}
 use Rattle.n41_types.specs.declared.commands.Answer.{Answer}
 use Rattle.n41_journal.specs.declared.events.Event.{Event}
-use Rattle.n41_model.specs.Text.{Line, answer_text, answer_to, unanswered_text}
+use Rattle.n41_calls.specs.Text.{Line, answer_text, answer_to, unanswered_text}
 use Rattle.n41_script.specs.declared.script.Script.{Script}
 use Rattle.n41_script.specs.declared.script.ScriptLine.{ScriptLine}
 

@@ -1,7 +1,7 @@
 // The words for an answer.
 ghost use Rattle.std.specs.Prelude.{◌≡◌, ◌++◌, codes, OnOk, IfOk};
 ghost use Rattle.std.specs.Fmt.{decimal};
-ghost use Rattle.n41_model.specs.Text.{answer_text, unanswered_text};
+ghost use Rattle.n41_calls.specs.Text.{answer_text, unanswered_text};
 
 use crate::values::{put, put_decimal, put_value};
 use n41_types::{Answer, NoMemory};

@@ -3,7 +3,7 @@ ghost use Rattle.std.specs.Prelude.{◌≡◌, ◌++◌, ◌∷◌, [], ◌<◌,
 ghost use Rattle.hex.specs.Hex.{upper_digits};
 ghost use Rattle.std.specs.List.{flat_map};
 ghost use Rattle.std.specs.Fmt.{decimal, digits};
-ghost use Rattle.n41_model.specs.Text.{hex_or_dash, decimal_or_dash, padded, mode_text, name_byte, name_text, end_text, value_text};
+ghost use Rattle.n41_calls.specs.Text.{hex_or_dash, decimal_or_dash, padded, mode_text, name_byte, name_text, end_text, value_text};
 
 use n41_types::{Bytes, NoMemory, Texts, Value};
 use std::alloc::Global;

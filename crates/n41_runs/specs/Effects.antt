@@ -13,7 +13,7 @@ use Rattle.n41_results.specs.declared.results.Res.{Res}
 use Rattle.n41_results.specs.Results.{operation_of, status_of}
 use Rattle.n41_journal.specs.declared.events.Event.{Event}
 use Rattle.n41_journal.specs.declared.events.Event.TheVariants.{Began, Put}
-use Rattle.n41_model.specs.Calls.{number, owner}
+use Rattle.n41_calls.specs.Calls.{number, owner}
 use Rattle.n41_model.specs.Replies.{is_ok}
 use Rattle.n41_model.specs.Requests.{is_on, knows, outs, slot_number}
 use Rattle.n41_runs.specs.declared.commands.CommandName.{CommandName}

@@ -1,5 +1,5 @@
 -- What the client promises of a run.
-use Rattle.std.specs.Prelude.{◌≡◌, ℕ, ◌≤◌, Bool, true, false, List, Some, All, IsSome}
+use Rattle.std.specs.Prelude.{◌≡◌, ℕ, ◌≤◌, Bool, true, false, ◌&&◌, List, Option, Some, None, All, IsSome}
 use Rattle.n41_types.specs.declared.commands.Answer.{Answer}
 use Rattle.n41_types.specs.declared.commands.Answer.TheVariants as says
 use Rattle.n41_types.specs.declared.commands.Command.{Command}
@@ -9,11 +9,17 @@ use Rattle.n41_types.specs.declared.plans.Request.{Request}
 use Rattle.n41_types.specs.Plans.{class_of}
 use Rattle.n41_journal.specs.declared.events.Event.{Event}
 use Rattle.n41_model.specs.declared.words.Setup.{Setup}
-use Rattle.n41_model.specs.Answers.{round_limit}
-use Rattle.n41_model.specs.Kept.{Kept}
-use Rattle.n41_model.specs.OneOut.{OneOut}
+use Rattle.n41_calls.specs.Answers.{round_limit}
+use Rattle.n41_calls.specs.Kept.{Kept}
+use Rattle.n41_calls.specs.OneOut.{OneOut}
 use Rattle.n41_model.specs.Requests.{out, doubt, rounds}
-use Rattle.n41_model.specs.Text.{answer_to}
+use Rattle.n41_calls.specs.Text.{answer_to}
+use Rattle.n41_types.specs.declared.spans.Mode.{Mode}
+use Rattle.n41_opens.specs.Opens.{open_of, is_marked}
+use Rattle.n41_calls.specs.Walks.{Seen, file, opener}
+use Rattle.n41_calls.specs.Files.{seen_at}
+use Rattle.n41_calls.specs.Calls.{files}
+use Rattle.n41_runs.specs.Records.{OpenRecord, open_record, same_bytes, covers}
 use Rattle.n41_runs.specs.declared.steps.Step.{Step}
 use Rattle.n41_runs.specs.Steps.{client}
 use Rattle.n41_runs.specs.Rules.{Legal}
@@ -49,10 +55,24 @@ pub record IsUnknown (n : ℕ) (js : List Event) (c m : ℕ) : Type 0 where
 abbrev pub UnknownCaused : ℕ → List Event → Type 0
 UnknownCaused n js = (c m : ℕ) → answer_to js c m ≡ Some says.Unknown → IsUnknown n js c m
 
+-- The server has the open record of each handle that is open and is not being closed: by the owner and file of its open, with the "other"
+-- that the client knows, in modes that allow what its own does.
+abbrev pub is_on_record : Option OpenRecord → List ℕ → Mode → Bool
+is_on_record None o m = false
+is_on_record (Some x) o m = same_bytes x.other o && covers x.modes m
+
+abbrev pub IsOnRecord : List Step → Option Seen → Type 0
+IsOnRecord w None = Unit {0}
+IsOnRecord w (Some s) = is_on_record (open_record w (opener s) (file s)) s.handle.id.other s.handle.mode ≡ true
+
+abbrev pub StateKept : ℕ → List Step → Type 0
+StateKept n w = (h : ℕ) → is_marked (open_of (files n (client w)).opens.handles h) ≡ false → IsOnRecord w (seen_at (files n (client w)).opens (Some h))
+
 pub record Good (u : Setup) (w : List Step) : Type 0 where
   pub one_out : OneOut (client w)
   pub acts_once : ActsOnce u.callers w
   pub unknown : UnknownCaused u.callers (client w)
+  pub kept : StateKept u.callers w
 
 -- the law: each legal run whose client keeps its rules is good
 abbrev pub RunsAreGood : Type 0

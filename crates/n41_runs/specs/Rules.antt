@@ -18,11 +18,12 @@ use Rattle.n41_results.specs.Results.{ok, status_of}
 use Rattle.n41_results.specs.Shapes.{shape_of}
 use Rattle.n41_journal.specs.declared.events.Event.{Event}
 use Rattle.n41_journal.specs.declared.events.Event.TheVariants.{Took, CbTook}
-use Rattle.n41_model.specs.Replies.{is_ok, is_delay, is_not_bound, is_uncached, is_size_refusal, repeats, has_its_answer, is_wide_enough}
+use Rattle.n41_model.specs.Replies.{is_ok, is_delay, is_not_bound, is_uncached, is_size_refusal, repeats, has_its_answer, is_half_open, is_wide_enough}
 use Rattle.n41_model.specs.Requests.{standing}
 use Rattle.n41_runs.specs.declared.steps.Step.{Step}
 use Rattle.n41_runs.specs.declared.steps.Step.TheVariants.{Does, Takes, Runs, Repeats, Refuses, Names, Makes, Binds, Ends}
 use Rattle.n41_runs.specs.Steps.{client, message, carrier, fate, taken, end_status, ran_reply, made_reply}
+use Rattle.n41_runs.specs.OpenRules.{KeepsRecords}
 use Rattle.n41_runs.specs.Server.{last, kept, was_made, alive, slots_given, made_for, is_bound, was_named, confirmed, is_there, next_sequence, last_made}
 
 -- ---- statuses by their names in RFC 8881, section 15
@@ -74,9 +75,10 @@ slot_refuses sizes w k r u s =
     else is_gone s)
 
 -- The results of a new turn. They are those of the operations of the request, in order, up to the first that is not OK; what they tell is
--- free. SEQUENCE repeats session, turn and slot (own). RETRY_UNCACHED_REP is none of them (own), and GETATTR tells type and size where
--- they are asked (own). An operation that answers an error has changed nothing (own).
+-- free, but for open records. SEQUENCE repeats session, turn and slot (own). RETRY_UNCACHED_REP is none of them (own), GETATTR tells type
+-- and size where they are asked (own), WRITE tells no more than was sent, and that it is on stable storage (own), and GETFH is OK behind an OPEN that is (own). An operation that answers an error has changed nothing (own).
 pub record IsRun (r : Request) (q : Sequenced) (xs : List Res) : Type 0 where
+  pub whole : is_half_open xs ≡ false
   pub echoes : repeats r.slot q ≡ true
   pub fits : shape_of r (ran_reply r q xs) ≡ None
   pub cached : is_uncached (end_status ok xs) ≡ false
@@ -89,6 +91,7 @@ pub record MayRun (sizes : Sizes) (w : List Step) (r : Request) (u : SlotUse) (q
   pub fits : sizes r ≡ None
   pub next : u.turn ≡ suc (last w u.sid u.slot)
   pub answer : IsRun r q xs
+  pub records : KeepsRecords w r.plan xs
 
 -- RETRY_UNCACHED_REP, at SEQUENCE itself (own) or at the next operation
 abbrev pub is_uncached_body : Option SlotUse → ReplyBody → Bool

@@ -2,7 +2,7 @@
 use Rattle.std.proofs.Common.{◌≡◌, ◌∙◌, ◌-◌, suc, arith, List, [], ◌∷◌, length, Option, Some, None, Ok, ℕ, refl, slice_get}
 use Rattle.n41_results.specs.declared.results.Res.{Res}
 use Rattle.n41_results.specs.declared.results.Res.TheVariants as res
-use Rattle.n41_model.specs.Calls.{reached}
+use Rattle.n41_calls.specs.Calls.{reached}
 use Rattle.n41_said.specs.Handles.{fh_in}
 
 abbrev pub fh_at : Option Res → Option (List ℕ)

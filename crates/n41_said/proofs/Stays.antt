@@ -5,7 +5,7 @@ use Rattle.n41_types.specs.declared.plans.Place.{Place}
 use Rattle.n41_types.specs.declared.plans.Plan.TheVariants as plan
 use Rattle.n41_results.specs.declared.replies.Reply.{Reply}
 use Rattle.n41_model.specs.declared.words.Way.{Way}
-use Rattle.n41_model.specs.Calls.{step_of}
+use Rattle.n41_calls.specs.Calls.{step_of}
 
 pub stat_stays : (c : Option Command) (at : Place) (y : Reply) (w : Way) → step_of c (plan.Stat at) y w ≡ w
 stat_stays None at y w = refl

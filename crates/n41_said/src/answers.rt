@@ -1,5 +1,5 @@
 ghost use Rattle.std.specs.Prelude.{◌≡◌};
-ghost use Rattle.n41_model.specs.Calls.{stat_value, value_of_attrs, done_with, is_again, is_put_off_by, attempts_after};
+ghost use Rattle.n41_calls.specs.Calls.{stat_value, value_of_attrs, done_with, is_again, is_put_off_by, attempts_after};
 
 use n41_model::Verdict;
 use n41_results::Res;

@@ -1,6 +1,6 @@
 ghost use Rattle.std.specs.Prelude.{◌≡◌, option_copied};
 ghost use Rattle.n41_model.specs.Sessions.{raised, client_after, session_after, slots_after, bound_after, unbound_after, is_complete, completes, plan_in, completed_after, completed_by, target_in, target_after};
-ghost use Rattle.n41_model.specs.Answers.{breaks, place_or};
+ghost use Rattle.n41_calls.specs.Answers.{breaks, place_or};
 
 use crate::phases::completes;
 use n41_model::{BareVerdict, KnownClient, Verdict};

@@ -1,7 +1,7 @@
 ghost use Rattle.std.specs.Prelude.{◌≡◌, None, Some, option_copied, option_map, if◌then◌else◌, IfOk};
 ghost use Rattle.n41_types.specs.declared.commands.Answer.TheVariants as answers;
 ghost use Rattle.n41_model.specs.Sessions.{plan_in};
-ghost use Rattle.n41_model.specs.Calls.{listing_in, reached_in, value_of, step_of, is_again, answer_in, way_after};
+ghost use Rattle.n41_calls.specs.Calls.{listing_in, reached_in, value_of, step_of, is_again, answer_in, way_after};
 ghost use Rattle.n41_said.specs.Listings.{names_told};
 
 use crate::answers::{done_with, is_again, stat_value};

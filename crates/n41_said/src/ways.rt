@@ -1,5 +1,5 @@
 ghost use Rattle.std.specs.Prelude.{◌≡◌, option_copied, IfOk};
-ghost use Rattle.n41_model.specs.Calls.{walk_most, at_root, listed_of, parents, last_of, route, ahead, turned, way_of, walked, walked_by, reached, reached_in};
+ghost use Rattle.n41_calls.specs.Calls.{walk_most, at_root, listed_of, parents, last_of, route, ahead, turned, way_of, walked, walked_by, reached, reached_in};
 ghost use Rattle.n41_said.specs.Handles.{fh_in};
 
 use n41_model::{Listed, Way};

@@ -1,7 +1,7 @@
 -- The runs are legal, and their journals are kept.
 use Rattle.std.proofs.Common.{inl, inr, ◌<◌, ◌≤◌, true, false, None, refl, arith}
 use Rattle.n41_model.specs.declared.words.Item.TheVariants as item
-use Rattle.n41_model.specs.Kept.{Kept}
+use Rattle.n41_calls.specs.Kept.{Kept}
 use Rattle.n41_runs.specs.Rules.{Sizes, LegalBy}
 use Rattle.n41_runs.specs.Steps.{client}
 use Rattle.n41_samples.specs.Samples.{setup, sid, opened, asked, lost, late, unknown, exchange, create, complete, lease, mkdir, bind, IsRun}

@@ -23,7 +23,7 @@ use Rattle.n41_results.specs.Results.{ok}
 use Rattle.n41_journal.specs.declared.events.Cause.TheVariants as cause
 use Rattle.n41_journal.specs.declared.events.Event.TheVariants.{Began, Put, Dialed, DialFailed, Broke, Ticked, Answered}
 use Rattle.n41_model.specs.declared.words.Setup.{Setup}
-use Rattle.n41_model.specs.Kept.{Kept}
+use Rattle.n41_calls.specs.Kept.{Kept}
 use Rattle.n41_runs.specs.Effects.{effects_of}
 use Rattle.n41_runs.specs.Rules.{Legal}
 use Rattle.n41_runs.specs.declared.steps.Step.{Step}

@@ -10,9 +10,9 @@ use Rattle.n41_journal.specs.declared.events.Event.{Event}
 use Rattle.n41_journal.specs.declared.events.Event.TheVariants.{Put}
 use Rattle.n41_model.specs.declared.words.Sent.TheVariants.{Waits}
 use Rattle.n41_model.specs.declared.words.Setup.{Setup}
-use Rattle.n41_model.specs.Due.{finishing}
+use Rattle.n41_calls.specs.Due.{finishing}
 use Rattle.n41_model.specs.Requests.{bares, out, outs, used, sent, retried, doubt, turn_of, knows, is_on, first}
-use Rattle.n41_model.proofs.Slots.{Seats}
+use Rattle.n41_calls.proofs.Slots.{Seats}
 use Rattle.n41_view.proofs.Found.{no_use}
 use Rattle.n41_view.proofs.Lists.{first_bare}
 use Rattle.n41_net.proofs.Lives.{Lives}

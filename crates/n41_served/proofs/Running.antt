@@ -16,7 +16,7 @@ use Rattle.n41_model.specs.declared.words.Verdict.{Verdict}
 use Rattle.n41_model.specs.declared.words.Verdict.TheVariants as v
 use Rattle.n41_model.specs.Replies.{verdict_of, is_breach}
 use Rattle.n41_model.specs.Requests.{out, outs, used, sent, retried, doubt}
-use Rattle.n41_model.proofs.Slots.{Seats}
+use Rattle.n41_calls.proofs.Slots.{Seats}
 use Rattle.n41_view.proofs.Found.{use_on}
 use Rattle.n41_view.proofs.Lists.{first_on}
 use Rattle.n41_moves.proofs.Said.{Said, last_put}

@@ -16,10 +16,10 @@ use Rattle.n41_model.specs.declared.words.Sent.TheVariants.{Waits}
 use Rattle.n41_model.specs.declared.words.Setup.{Setup}
 use Rattle.n41_model.specs.declared.words.Verdict.{Verdict}
 use Rattle.n41_model.specs.declared.words.Verdict.TheVariants as v
-use Rattle.n41_model.specs.Kept.{Kept, May}
+use Rattle.n41_calls.specs.Kept.{Kept, May}
 use Rattle.n41_model.specs.Replies.{verdict_of, body_verdict, is_breach, is_final, gives_back, sequence_status}
 use Rattle.n41_model.specs.Requests.{out, used, sent, retried, doubt, standing, made, is_waiting, sent_after, moment}
-use Rattle.n41_model.proofs.Slots.{Seats, seats}
+use Rattle.n41_calls.proofs.Slots.{Seats, seats}
 use Rattle.n41_served.proofs.Answering.{repeats_served, refuses_served, names_served, binds_served, makes_served, ends_served}
 use Rattle.n41_view.proofs.Known.{known}
 use Rattle.n41_net.proofs.Lives.{Lives, lives}

@@ -8,7 +8,7 @@ use Rattle.n41_types.specs.declared.plans.Request.{Request}
 use Rattle.n41_types.specs.declared.plans.SlotUse.{SlotUse}
 use Rattle.n41_results.specs.declared.replies.Reply.{Reply}
 use Rattle.n41_model.specs.Requests.{is_on, is_use_of, is_bare, is_bare_use}
-use Rattle.n41_model.specs.Calls.{is_caller, fresh_call, way_of, put_call, took_call, answered_call}
+use Rattle.n41_calls.specs.Calls.{is_caller, fresh_call, way_of, put_call, took_call, answered_call}
 use Rattle.n41_view.specs.declared.tables.Seat.{Seat}
 use Rattle.n41_view.specs.declared.tables.Slot.{Slot}
 use Rattle.n41_view.specs.Step.{put_slot, began_seat, put_seat, took_seat, answered_seat, with_call, call_of, Said}

@@ -10,7 +10,7 @@ use Rattle.n41_model.specs.declared.words.Verdict.{Verdict}
 use Rattle.n41_model.specs.declared.words.Verdict.TheVariants as v
 use Rattle.n41_model.specs.Replies.{is_ok, is_final}
 use Rattle.n41_model.specs.Requests.{is_on, session_in}
-use Rattle.n41_model.specs.Calls.{Call, attempts_after, took_call, is_caller}
+use Rattle.n41_calls.specs.Calls.{Call, attempts_after, took_call, is_caller}
 use Rattle.n41_view.specs.View.{View, view, seats_from}
 use Rattle.n41_view.specs.declared.tables.Seat.{Seat}
 use Rattle.n41_view.specs.declared.tables.Slot.{Slot}

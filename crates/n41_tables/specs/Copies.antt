@@ -3,7 +3,7 @@ use Rattle.std.specs.Prelude.{ℕ, List, Option, None}
 use Rattle.n41_journal.specs.declared.events.Event.{Event}
 use Rattle.n41_journal.specs.declared.events.Event.TheVariants.{Began, Took}
 use Rattle.n41_model.specs.declared.words.Listed.{Listed}
-use Rattle.n41_model.specs.Calls.{reached_in, listing_in, listed_of}
+use Rattle.n41_calls.specs.Calls.{reached_in, listing_in, listed_of}
 use Rattle.n41_said.specs.Listings.{names_told}
 
 -- what the reply of this event came to

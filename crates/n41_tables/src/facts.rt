@@ -1,6 +1,6 @@
 ghost use Rattle.std.specs.Prelude.{◌≡◌, ◌+◌, ◌<◌, ◌^◌, Bool, None, [], option_copied, if◌then◌else◌};
 ghost use Rattle.n41_model.specs.Requests.{is_bare, is_bare_use};
-ghost use Rattle.n41_model.specs.Answers.{breaks};
+ghost use Rattle.n41_calls.specs.Answers.{breaks};
 ghost use Rattle.n41_view.specs.Step.{put_put_off, put_put_offs, took_put_off, took_put_offs, put_facts, took_facts, ended_round, dialed_facts, broke_facts, counted};
 
 use n41_model::Phase;

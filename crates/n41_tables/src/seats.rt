@@ -1,5 +1,5 @@
 ghost use Rattle.std.specs.Prelude.{◌≡◌, ◌+◌, ◌-◌, ◌<◌, ◌^◌, None, Some, map, option_map, slice_get, if◌then◌else◌};
-ghost use Rattle.n41_model.specs.Calls.{fresh_call, put_call, took_call, answered_call, is_put_off_by, listed_of, way_of, listing_in, reached_in};
+ghost use Rattle.n41_calls.specs.Calls.{fresh_call, put_call, took_call, answered_call, is_put_off_by, listed_of, way_of, listing_in, reached_in};
 ghost use Rattle.n41_said.specs.Listings.{names_told};
 ghost use Rattle.n41_view.specs.Step.{with_call, call_of, began_seat, put_seat, took_seat, answered_seat};
 ghost use Rattle.n41_tables.specs.Earned.{earned_at};

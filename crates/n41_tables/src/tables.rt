@@ -2,7 +2,7 @@ ghost use Rattle.std.specs.Prelude.{◌≡◌, ◌+◌, ◌<◌, ◌^◌, ℕ, s
 ghost use Rattle.n41_types.specs.declared.commands.Answer.{Answer as AnswerValue};
 ghost use Rattle.n41_journal.specs.declared.events.Event.{Event as EventValue};
 ghost use Rattle.n41_model.specs.Requests.{session_in};
-ghost use Rattle.n41_model.specs.Calls.{listed_of, listing_in, reached_in};
+ghost use Rattle.n41_calls.specs.Calls.{listed_of, listing_in, reached_in};
 ghost use Rattle.n41_said.specs.Listings.{names_told};
 ghost use Rattle.n41_view.specs.View.{view};
 ghost use Rattle.n41_view.specs.Step.{step, counted, put_facts, took_facts, ended_round, dialed_facts, broke_facts, put_bare, took_bare, put_slot, took_slot, dialed_slot, broke_slot, slots_made, began_seat, put_seat, took_seat, new_owner, said};

@@ -6,8 +6,8 @@ use Rattle.n41_journal.specs.declared.events.Event.{Event}
 use Rattle.n41_journal.specs.declared.events.Event.TheVariants.{Answered}
 use Rattle.n41_journal.specs.Journal.{Log}
 use Rattle.n41_model.specs.declared.words.Setup.{Setup}
-use Rattle.n41_model.specs.Calls.{call, either}
-use Rattle.n41_model.specs.Kept.{MayAnswer}
+use Rattle.n41_calls.specs.Calls.{call, either}
+use Rattle.n41_calls.specs.Kept.{MayAnswer}
 use Rattle.n41_view.specs.declared.tables.Seat.{Seat}
 use Rattle.n41_view.specs.View.{View, view}
 use Rattle.n41_view.proofs.Lookups.{seat_below}

@@ -1,6 +1,6 @@
 -- The tables are what the journal says, and the journal is that of a client which keeps its rules.
 use Rattle.std.specs.Prelude.{◌≡◌, ◌≤◌, length}
-use Rattle.n41_model.specs.Kept.{Kept}
+use Rattle.n41_calls.specs.Kept.{Kept}
 use Rattle.n41_view.specs.View.{view}
 use Rattle.n41_tied.specs.declared.tied.Tied.TheInside.{Inside}
 use Rattle.n41_tied.specs.Told.{Told}

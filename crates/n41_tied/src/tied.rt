@@ -1,8 +1,8 @@
 ghost use Rattle.std.specs.Prelude.{◌≡◌, ◌∷◌, ◌<◌, ◌≤◌, ◌-◌, Some, [], length, IfOk, OnOk, OnErr};
 ghost use Rattle.n41_types.specs.declared.commands.Answer.{Answer as AnswerValue};
 ghost use Rattle.n41_journal.specs.declared.events.Event.{Event as EventValue};
-ghost use Rattle.n41_model.specs.Calls.{call, either};
-ghost use Rattle.n41_model.specs.Kept.{May, MayAnswer, Kept};
+ghost use Rattle.n41_calls.specs.Calls.{call, either};
+ghost use Rattle.n41_calls.specs.Kept.{May, MayAnswer, Kept};
 ghost use Rattle.n41_view.specs.View.{view};
 
 use n41_journal::{Event, Journal};

@@ -10,7 +10,7 @@ use Rattle.n41_types.specs.Plans.{class_of}
 use Rattle.n41_journal.specs.declared.events.Event.{Event}
 use Rattle.n41_model.specs.declared.words.Phase.{Phase}
 use Rattle.n41_model.specs.declared.words.Phase.TheVariants.{Running}
-use Rattle.n41_model.specs.Calls.{Call, command, began_at, call, ledger, chosen, sooner, is_ready_call, is_plan, next_plan, in_running}
+use Rattle.n41_calls.specs.Calls.{Call, command, began_at, call, ledger, chosen, sooner, is_ready_call, is_plan, next_plan, in_running}
 use Rattle.n41_model.specs.Requests.{moment}
 use Rattle.n41_model.specs.Sessions.{phase, session, passed}
 use Rattle.n41_moves.proofs.Suits.{Suits, is_bare_class, plan_suits}

@@ -7,7 +7,7 @@ use Rattle.n41_results.specs.declared.replies.Reply.{Reply}
 use Rattle.n41_journal.specs.declared.events.Event.{Event}
 use Rattle.n41_journal.specs.declared.events.Event.TheVariants.{Put, Took}
 use Rattle.n41_model.specs.declared.words.Verdict.{Verdict}
-use Rattle.n41_model.specs.Calls.{Ledger, call, owner, ledger, is_new, is_caller, put_call, took_call, command, owner_at, slot_in}
+use Rattle.n41_calls.specs.Calls.{Ledger, call, owner, ledger, is_new, is_caller, put_call, took_call, command, owner_at, slot_in}
 use Rattle.n41_model.specs.Replies.{verdict_of}
 use Rattle.n41_model.specs.Requests.{request, outs, out, knows, is_on, slot_number, moment, retried, verdict, verdict_in, verdict_on}
 use Rattle.n41_model.specs.Sessions.{plan_of, plan_in}

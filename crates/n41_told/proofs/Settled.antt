@@ -13,11 +13,11 @@ use Rattle.n41_journal.specs.declared.events.Event.{Event}
 use Rattle.n41_journal.specs.declared.events.Cause.{Cause}
 use Rattle.n41_journal.specs.declared.events.Event.TheVariants.{Began, Put, Took, CbTook, CbPut, Dialed, DialFailed, Broke, Ticked, Answered, Quit}
 use Rattle.n41_model.specs.declared.words.Setup.{Setup}
-use Rattle.n41_model.specs.Answers.{round_limit, HasCause}
-use Rattle.n41_model.specs.Calls.{call, owner, command, number}
-use Rattle.n41_model.specs.Kept.{Kept, May, MayBegin, MayAnswer}
+use Rattle.n41_calls.specs.Answers.{round_limit, HasCause}
+use Rattle.n41_calls.specs.Calls.{call, owner, command, number}
+use Rattle.n41_calls.specs.Kept.{Kept, May, MayBegin, MayAnswer}
 use Rattle.n41_model.specs.Requests.{bares, first, out, rounds, heard}
-use Rattle.n41_model.proofs.Slots.{Seats, seats}
+use Rattle.n41_calls.proofs.Slots.{Seats, seats}
 use Rattle.n41_told.proofs.Chosen.{new_owner, owner_ready, bare_owner}
 use Rattle.n41_view.proofs.Found.{no_use}
 use Rattle.n41_view.proofs.Known.{Known, known}
@@ -30,8 +30,8 @@ use Rattle.n41_moves.proofs.Single.{took_outs}
 use Rattle.n41_moves.proofs.Suits.{is_bare_class}
 use Rattle.n41_told.proofs.Telling.{Waiting, waiting, new_class, is_given, given_idle, given_is, some_command, heard_zero}
 use Rattle.n41_told.proofs.Told.{Told, caller_of, named_is}
-use Rattle.n41_model.specs.Answers.{UnknownCause, UnreachableCause}
-use Rattle.n41_model.specs.Text.{answer_to}
+use Rattle.n41_calls.specs.Answers.{UnknownCause, UnreachableCause}
+use Rattle.n41_calls.specs.Text.{answer_to}
 use Rattle.n41_model.specs.declared.words.Sent.{Sent}
 use Rattle.n41_model.specs.declared.words.Sent.TheVariants.{Never, Waits, Delayed, Unbound}
 use Rattle.n41_model.specs.Requests.{doubt, sent, is_waiting}

@@ -23,14 +23,14 @@ use Rattle.n41_model.specs.declared.words.Phase.TheVariants.{Binding, Session, C
 use Rattle.n41_model.specs.declared.words.Setup.{Setup}
 use Rattle.n41_model.specs.declared.words.Verdict.{Verdict}
 use Rattle.n41_model.specs.declared.words.Verdict.TheVariants as v
-use Rattle.n41_model.specs.Answers.{round_limit, breach_at, place_or, breaks, HasCause}
-use Rattle.n41_model.specs.Calls.{Call, call, owner, command, number, took_call, answered_call, fresh_call, is_caller, given, either, way_of, pause_given, began_on}
-use Rattle.n41_model.specs.Due.{is_dead, phase_plan, bind_in, create_in, destroy_in}
-use Rattle.n41_model.specs.Kept.{Kept, May, MayBegin, MayAnswer}
+use Rattle.n41_calls.specs.Answers.{round_limit, breach_at, place_or, breaks, HasCause}
+use Rattle.n41_calls.specs.Calls.{Call, call, owner, command, number, took_call, answered_call, fresh_call, is_caller, given, either, way_of, pause_given, began_on}
+use Rattle.n41_calls.specs.Due.{is_dead, phase_plan, bind_in, create_in, destroy_in}
+use Rattle.n41_calls.specs.Kept.{Kept, May, MayBegin, MayAnswer}
 use Rattle.n41_model.specs.Replies.{is_final, is_breach, is_bare_breach, verdict_of}
 use Rattle.n41_model.specs.Requests.{bares, bare, bare_waits, made, first, out, rounds, heard, moment, verdict, bare_verdict, retried, is_bare, is_bare_use, standing}
 use Rattle.n41_model.specs.Sessions.{phase, phases, took_phase, slot_phase, bare_phase, dialed_phase, broke_phase, plan_of, session, client}
-use Rattle.n41_model.proofs.Slots.{Seats, seats}
+use Rattle.n41_calls.proofs.Slots.{Seats, seats}
 use Rattle.n41_told.proofs.Chosen.{bare_owner}
 use Rattle.n41_view.proofs.Fresh.{Placed, put_placed}
 use Rattle.n41_view.proofs.Found.{no_use}

@@ -10,12 +10,12 @@ use Rattle.n41_journal.specs.declared.events.Event.{Event}
 use Rattle.n41_journal.specs.declared.events.Event.TheVariants.{Put}
 use Rattle.n41_model.specs.declared.words.Phase.{Phase}
 use Rattle.n41_model.specs.declared.words.Setup.{Setup}
-use Rattle.n41_model.specs.Answers.{round_limit}
-use Rattle.n41_model.specs.Calls.{Call, call, owner, command, number, put_call, is_caller, is_plan, in_running, chosen, ledger}
-use Rattle.n41_model.specs.Due.{is_dead}
+use Rattle.n41_calls.specs.Answers.{round_limit}
+use Rattle.n41_calls.specs.Calls.{Call, call, owner, command, number, put_call, is_caller, is_plan, in_running, chosen, ledger}
+use Rattle.n41_calls.specs.Due.{is_dead}
 use Rattle.n41_model.specs.Requests.{bare, out, rounds}
 use Rattle.n41_model.specs.Sessions.{phase}
-use Rattle.n41_model.proofs.Slots.{Seats}
+use Rattle.n41_calls.proofs.Slots.{Seats}
 use Rattle.n41_told.proofs.Chosen.{IsReady, new_owner, owner_ready, wants_chosen}
 use Rattle.n41_told.proofs.Ledgers.{NewLedger, SameLedger, held, new_moves}
 use Rattle.n41_moves.proofs.Moves.{PutsNew, puts_new, slot_is, itself}

@@ -2,4 +2,3 @@ pub mod Names
 pub mod Operations
 pub mod Plans
 pub mod Spans
-pub mod Texts

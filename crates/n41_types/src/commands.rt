@@ -4,7 +4,7 @@ use crate::names::Path;
 use crate::owners::Label;
 use crate::spans::{LockKind, Mode, Span};
 use crate::statuses::{Loss, Status};
-use crate::texts::Texts;
+use n41_texts::Texts;
 use bytes::Bytes;
 use std::alloc::AllocError;
 

@@ -14,7 +14,6 @@ mod spans;
 mod statuses;
 #[cfg(test)]
 mod tests;
-mod texts;
 
 pub use attributes::{Attrs, Bitmap};
 pub use bytes::Bytes;
@@ -28,7 +27,7 @@ pub use plans::{Claim, Class, Locker, Place, Plan, Request, SlotUse};
 pub use sequence::Sequence;
 pub use spans::{LockKind, Mode, Span};
 pub use statuses::{Loss, Status};
-pub use texts::{Gathered, Texts};
+pub use n41_texts::{Gathered, Texts};
 
 /// Want of memory.
 pub type NoMemory = std::alloc::AllocError;

@@ -6,12 +6,12 @@ use Rattle.n41_types.specs.declared.plans.Request.{Request}
 use Rattle.n41_journal.specs.declared.events.Event.{Event}
 use Rattle.n41_model.specs.declared.words.Sent.{Sent}
 use Rattle.n41_model.specs.declared.words.Sent.TheVariants.{Never, Waits, Delayed, Unbound}
-use Rattle.n41_model.specs.Due.{only_if}
-use Rattle.n41_model.specs.Kept.{IsAwaited, IsOld, WaitsBare, WaitsOn}
+use Rattle.n41_calls.specs.Due.{only_if}
+use Rattle.n41_calls.specs.Kept.{IsAwaited, IsOld, WaitsBare, WaitsOn}
 use Rattle.n41_model.specs.Requests.{bare, bare_waits, bare_put_at, moment, outs, out, sent, put_at, is_waiting, is_on, has_xid}
 use Rattle.n41_model.specs.Sessions.{slots}
-use Rattle.n41_model.proofs.Slots.{Seats}
-use Rattle.n41_model.proofs.Tests.{only_if_some}
+use Rattle.n41_calls.proofs.Slots.{Seats}
+use Rattle.n41_calls.proofs.Tests.{only_if_some}
 use Rattle.n41_view.specs.View.{view, held_of, slots_from}
 use Rattle.n41_view.specs.Step.{has, held_with}
 use Rattle.n41_view.specs.Causes.{awaited_in, awaited_held, is_old_held, any_old, is_old_in}

@@ -3,17 +3,19 @@ use Rattle.std.proofs.Common.{◌≡◌, ◌↔◌, ℕ, ◌≤◌, Bool, true, 
 use Rattle.std.proofs.lemmas.Bool.Decides.{nat_tests}
 use Rattle.n41_types.specs.declared.commands.Answer.{Answer}
 use Rattle.n41_types.specs.declared.commands.Answer.TheVariants as answer
+use Rattle.n41_types.specs.declared.commands.Value.{Value}
+use Rattle.n41_types.specs.declared.commands.Value.TheVariants as value
 use Rattle.n41_types.specs.declared.plans.Class.{Class}
 use Rattle.n41_types.specs.declared.plans.Class.TheVariants.{Bare, Reading, State, Changing}
 use Rattle.n41_types.specs.declared.plans.Request.{Request}
 use Rattle.n41_types.specs.Plans.{class_of}
 use Rattle.n41_journal.specs.declared.events.Event.{Event}
-use Rattle.n41_model.specs.Answers.{HasCause, UnknownCause, UnreachableCause, round_limit}
-use Rattle.n41_model.specs.Calls.{call, given, owner, is_caller}
+use Rattle.n41_calls.specs.Answers.{HasCause, IsPrompt, UnknownCause, UnreachableCause, round_limit}
+use Rattle.n41_calls.specs.Calls.{call, given, owner, is_caller}
 use Rattle.n41_model.specs.Requests.{out, doubt, rounds}
 use Rattle.n41_model.specs.Sessions.{slots}
 use Rattle.n41_view.specs.View.{view, held_of, slots_from, seat_of, seats_from}
-use Rattle.n41_view.specs.Causes.{is_changing, doubts, any_doubt, CauseIn}
+use Rattle.n41_view.specs.Causes.{is_changing, doubts, any_doubt, CauseIn, IsPromptIn}
 use Rattle.n41_view.specs.declared.tables.Seat.{Seat}
 use Rattle.n41_view.proofs.Known.{Known}
 use Rattle.n41_view.proofs.Lookups.{some_held, any_below, seat_at}
@@ -95,8 +97,24 @@ unreachable_from n js c k h = (h.count, h.ended, h.ungiven, at (doubtful n js c)
   at true e = absurd (h.certain (unknown_to n js c h.ended e))
   at false e = e
 
+prompt_is : (n : ℕ) (js : List Event) (c : ℕ) (x : Value) → IsPromptIn (view n js) (seat_of n js c) x ↔ IsPrompt n js c x
+prompt_is n js c value.Opened = (λ h. h, λ h. h)
+prompt_is n js c (value.Got b e) = (λ h. h, λ h. h)
+prompt_is n js c (value.Wrote m) = (λ h. h, λ h. h)
+prompt_is n js c value.Locked = (λ h. h, λ h. h)
+prompt_is n js c value.Unlocked = (λ h. h, λ h. h)
+prompt_is n js c value.Free = (λ h. h, λ h. h)
+prompt_is n js c value.Truncated = (λ h. h, λ h. h)
+prompt_is n js c value.Closed = (λ h. h, λ h. h)
+prompt_is n js c (value.Stat a b d e) = (λ h. h, λ h. h)
+prompt_is n js c (value.Names ns m) = (λ h. h, λ h. h)
+prompt_is n js c value.Made = (λ h. h, λ h. h)
+prompt_is n js c value.Removed = (λ h. h, λ h. h)
+prompt_is n js c value.Renamed = (λ h. h, λ h. h)
+prompt_is n js c value.Paused = (λ h. h, λ h. h)
+
 cause_of : (n : ℕ) (js : List Event) (c : ℕ) (a : Answer) → Known js → CauseIn (view n js) (seat_of n js c) a ↔ HasCause n js c a
-cause_of n js c (answer.Done x) k = (λ h. h, λ h. h)
+cause_of n js c (answer.Done x) k = let p = prompt_is n js c x in (λ h. (h.0, p.0 h.1), λ h. (h.0, p.1 h.1))
 cause_of n js c (answer.Refused e) k = (λ h. h, λ h. h)
 cause_of n js c answer.Unknown k = (λ h. unknown_to n js c h.0 h.1, λ h. (h.ended, unknown_from n js c k h))
 cause_of n js c (answer.StateLost e) k = (λ h. h, λ h. h)

@@ -1,7 +1,7 @@
 -- What is due by the tables is what is due by the journal.
-use Rattle.std.proofs.Common.{◌≡◌, ◌⊎◌, inl, inr, ℕ, ◌+◌, ◌<◌, ◌≤◌, Bool, true, false, ◌&&◌, ◌||◌, not, List, Option, Some, None, slice_get, refl, sym, ◌∙◌, ap, arith}
+use Rattle.std.proofs.Common.{◌≡◌, ◌⊎◌, inl, inr, ℕ, ◌+◌, ◌<◌, ◌≤◌, Bool, true, false, ◌&&◌, ◌||◌, not, List, Option, Some, None, if◌then◌else◌, slice_get, refl, sym, ◌∙◌, ap, arith}
 use Rattle.std.proofs.lemmas.Bool.Decides.{nat_tests}
-use Rattle.std.specs.Prelude.{nat_le, is_none}
+use Rattle.std.specs.Prelude.{nat_le, nat_lt, is_none, is_some}
 use Rattle.n41_types.specs.declared.plans.Plan.{Plan}
 use Rattle.n41_types.specs.declared.plans.Request.{Request}
 use Rattle.n41_types.specs.Plans.{class_of, is_cached}
@@ -12,19 +12,20 @@ use Rattle.n41_model.specs.declared.words.Item.TheVariants as item
 use Rattle.n41_model.specs.declared.words.Phase.{Phase}
 use Rattle.n41_model.specs.declared.words.Phase.TheVariants.{Down, Binding, Session, ClientId, Settling, Reclaiming, Completing, Running, Dead}
 use Rattle.n41_model.specs.declared.words.Setup.{Setup}
-use Rattle.n41_model.specs.Answers.{round_limit}
+use Rattle.n41_calls.specs.Answers.{round_limit, breach_at}
 use Rattle.n41_model.specs.Requests.{standing, moment, rounds, bares, bare, out, used, sent}
 use Rattle.n41_model.specs.Sessions.{session, slots, bound, phase, put_off, passed, free_slot, is_empty, next_xid}
-use Rattle.n41_model.specs.Calls.{plan_next, is_ready}
-use Rattle.n41_model.specs.Due.{due, item_due, only_if, with_plan, on_free, on_free_slot, bare_with, bare_due, goes_again, finishing, is_dead, is_running, is_session, step_plan, phase_plan, own_plan, destroy_plan, any_waits, may_step, may_own, is_open, has_ended}
-use Rattle.n41_model.proofs.Slots.{Seats}
+use Rattle.n41_calls.specs.Calls.{plan_next, is_ready}
+use Rattle.n41_calls.specs.Due.{due, item_due, only_if, with_plan, on_free, on_free_slot, bare_with, bare_due, goes_again, finishing, is_dead, is_running, is_session, step_plan, phase_plan, own_plan, destroy_plan, any_waits, may_step, may_own, phase_now, is_open, has_ended}
+use Rattle.n41_calls.proofs.Slots.{Seats}
 use Rattle.n41_view.specs.View.{view, facts_of, held_of, slots_from, seats_from}
 use Rattle.n41_view.specs.Step.{held_at}
-use Rattle.n41_view.specs.Due.{finishing_in, any_waiting, is_timely, plan_for, goes_held, goes_slot, begins_seat, on_slot, new_on, new_bare, may_step_in, may_own_in, due_item, due_in, xid_in, has_ended_in}
+use Rattle.n41_view.specs.Due.{finishing_in, any_waiting, is_timely, plan_for, goes_held, goes_slot, begins_seat, on_slot, new_on, new_bare, may_step_in, may_own_in, due_item, due_in, xid_in, is_dead_in, is_open_in, has_ended_in}
 use Rattle.n41_view.specs.declared.tables.Held.{Held}
 use Rattle.n41_view.specs.declared.tables.Slot.{Slot}
 use Rattle.n41_view.proofs.Lists.{empty_is_none}
 use Rattle.n41_view.proofs.Known.{Known}
+use Rattle.n41_view.proofs.Choice.{ready_is}
 use Rattle.n41_view.proofs.Lookups.{seat_below, seat_past}
 use Rattle.n41_view.proofs.Owners.{held_by}
 use Rattle.n41_view.proofs.Scans.{finishing_is, waiting_is, owned_is, slot_in, free_slot_is, highest_is, xid_is, put_off_is}
@@ -77,7 +78,7 @@ new_on_is u js p s =
     ∙ (ap (λ (x : Option ℕ). on_slot u (view u.callers js) p (session js) (slot_in u.callers js (free_slot js)) x) (xid_is u.callers js s)
     ∙ on_slot_is u js p (session js) (free_slot js) (next_xid js))
 
-plan_is : (u : Setup) (js : List Event) (q : Phase) → plan_for u (facts_of js) q ≡ phase_plan u js q
+plan_is : (u : Setup) (js : List Event) (q : Phase) → plan_for u (facts_of u.callers js) q ≡ phase_plan u js q
 plan_is u js Down = refl
 plan_is u js Binding = refl
 plan_is u js Session = refl
@@ -90,13 +91,13 @@ plan_is u js Dead = refl
 
 -- ---- whether it is time
 
-timely_is : (js : List Event) → is_timely (facts_of js) ≡ passed (put_off js (phase js)) (moment js)
-timely_is js = ap (λ (o : Option ℕ). passed o (moment js)) (put_off_is js (phase js))
+timely_is : (n : ℕ) (js : List Event) → is_timely (facts_of n js) ≡ passed (put_off js (phase js)) (moment js)
+timely_is n js = ap (λ (o : Option ℕ). passed o (moment js)) (put_off_is js (phase js))
 
 may_step_is : (u : Setup) (js : List Event) → may_step_in (view u.callers js) ≡ may_step u js
 may_step_is u js =
     let a = finishing_is u.callers js in
-    let b = timely_is js in
+    let b = timely_is u.callers js in
     let d = waiting_is u.callers js in
     let e : is_none (bare js) ≡ is_empty (bares js) = sym (empty_is_none (bares js)) in
     parts a b d e where
@@ -104,7 +105,7 @@ may_step_is u js =
       parts a b d e = cc
 
 may_own_is : (u : Setup) (js : List Event) → may_own_in (view u.callers js) ≡ may_own u js
-may_own_is u js = parts (finishing_is u.callers js) (timely_is js) (owned_is u.callers js) where
+may_own_is u js = parts (finishing_is u.callers js) (timely_is u.callers js) (owned_is u.callers js) where
   parts : {a b : Bool} {t v : Bool} {w x : Bool} → a ≡ b → t ≡ v → w ≡ x → (not a && t && not w) ≡ (not b && v && not x)
   parts a b d = cc
 
@@ -126,15 +127,15 @@ retry_is u js n k =
 
 -- ---- a caller's request
 
-fresh_at : (u : Setup) (js : List Event) (c : ℕ) → Seats js → (a : Bool) → (c < u.callers) ⊎ (u.callers ≤ c) → only_if a (begins_seat u (view u.callers js) (slice_get (seats_from u.callers js 0 u.callers) c)) ≡ only_if (a && nat_le (c + 1) u.callers && is_ready u.callers js c) (with_plan (plan_next u.callers js c) (on_free_slot u js))
+fresh_at : (u : Setup) (js : List Event) (c : ℕ) → Seats js → (a : Bool) → (c < u.callers) ⊎ (u.callers ≤ c) → only_if a (begins_seat u (view u.callers js) (slice_get (seats_from u.callers js 0 u.callers) c)) ≡ only_if (a && nat_le (c + 1) u.callers && is_ready u.callers js c) (with_plan (plan_next u.uid u.callers js c) (on_free_slot u js))
 fresh_at u js c s a (inl h) =
     let d = ap (λ (o : Option _). begins_seat u (view u.callers js) o) (seat_below u.callers js u.callers c h) in
-    let w = with_same (plan_next u.callers js c) (new_on u (view u.callers js)) (on_free_slot u js) (λ p. new_on_is u js p s) in
-    let e = ap (λ (o : Option Request). only_if (is_ready u.callers js c) o) w in
-    ap (λ (o : Option Request). only_if a o) (d ∙ e) ∙ only_both a (nat_le (c + 1) u.callers) (is_ready u.callers js c) (with_plan (plan_next u.callers js c) (on_free_slot u js)) (is_below c u.callers h)
+    let w = with_same (plan_next u.uid u.callers js c) (new_on u (view u.callers js)) (on_free_slot u js) (λ p. new_on_is u js p s) in
+    let e = only_same (ready_is u.callers js c) w in
+    ap (λ (o : Option Request). only_if a o) (d ∙ e) ∙ only_both a (nat_le (c + 1) u.callers) (is_ready u.callers js c) (with_plan (plan_next u.uid u.callers js c) (on_free_slot u js)) (is_below c u.callers h)
 fresh_at u js c s a (inr h) =
     let d = ap (λ (o : Option _). only_if a (begins_seat u (view u.callers js) o)) (seat_past u.callers js u.callers c h) in
-    d ∙ (only_none a ∙ only_not a (nat_le (c + 1) u.callers) (is_ready u.callers js c) (with_plan (plan_next u.callers js c) (on_free_slot u js)) (is_past c u.callers h))
+    d ∙ (only_none a ∙ only_not a (nat_le (c + 1) u.callers) (is_ready u.callers js c) (with_plan (plan_next u.uid u.callers js c) (on_free_slot u js)) (is_past c u.callers h))
 
 below_or_past : (a b : ℕ) → (a < b) ⊎ (b ≤ a)
 below_or_past a b = grind arith
@@ -159,15 +160,26 @@ item_is u js item.Destroy s k =
     let e : is_none (bare js) ≡ is_empty (bares js) = sym (empty_is_none (bares js)) in
     let d = waiting_is u.callers js in
     let b : (finishing_in (view u.callers js) && is_none (bare js) && not (any_waiting (slots_from u.callers js 0 (slots js)))) ≡ (finishing u.callers js && is_empty (bares js) && not (any_waits js)) = cc in
-    only_same b (with_same (destroy_plan js) (new_bare u (view u.callers js)) (bare_due u js) (λ p. new_bare_is u js p s))
+    only_same b (with_same (destroy_plan u.callers js) (new_bare u (view u.callers js)) (bare_due u js) (λ p. new_bare_is u js p s))
+
+-- after a reply that broke the rules
+dead_at : (b : Bool) (q : Phase) → is_dead (if b then Dead else q) ≡ (b || is_dead q)
+dead_at true q = refl
+dead_at false q = refl
+
+dead_is : (n : ℕ) (js : List Event) → is_dead_in (facts_of n js) ≡ is_dead (phase_now n js)
+dead_is n js = sym (dead_at (is_some (breach_at n js)) (phase js))
+
+open_same : (n : ℕ) (js : List Event) → is_open_in (facts_of n js) ≡ is_open n js
+open_same n js = ap (λ (b : Bool). is_some (standing js) && not b && nat_lt (rounds js) round_limit) (dead_is n js)
 
 pub due_is : (u : Setup) (js : List Event) (i : Item) → Seats js → Known js → due_in u (view u.callers js) i ≡ due u js i
-due_is u js i s k = ap (λ (o : Option Request). only_if (is_open js) o) (item_is u js i s k)
+due_is u js i s k = only_same (open_same u.callers js) (item_is u js i s k)
 
 pub ended_is : (n : ℕ) (js : List Event) → has_ended_in (view n js) ≡ has_ended n js
 ended_is n js =
     let a = finishing_is n js in
     let e : is_none (bare js) ≡ is_empty (bares js) = sym (empty_is_none (bares js)) in
-    parts a e where
-      parts : {a b : Bool} {y z : Bool} → a ≡ b → y ≡ z → (is_dead (phase js) || nat_le round_limit (rounds js) || (a && (is_none (standing js) || (y && is_none (destroy_plan js))))) ≡ (is_dead (phase js) || nat_le round_limit (rounds js) || (b && (is_none (standing js) || (z && is_none (destroy_plan js)))))
-      parts a e = cc
+    parts a e (dead_is n js) where
+      parts : {a b : Bool} {y z : Bool} {d f : Bool} → a ≡ b → y ≡ z → d ≡ f → (d || nat_le round_limit (rounds js) || (a && (is_none (standing js) || (y && is_none (destroy_plan n js))))) ≡ (f || nat_le round_limit (rounds js) || (b && (is_none (standing js) || (z && is_none (destroy_plan n js)))))
+      parts a e g = cc

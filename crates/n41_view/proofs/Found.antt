@@ -7,7 +7,7 @@ use Rattle.n41_results.specs.declared.replies.Reply.{Reply}
 use Rattle.n41_results.specs.Shapes.{shape_of}
 use Rattle.n41_journal.specs.declared.events.Event.{Event}
 use Rattle.n41_model.specs.Requests.{request, bares, bare, outs, out, is_on, is_use_of, is_bare_use, has_xid}
-use Rattle.n41_model.proofs.Slots.{Seats}
+use Rattle.n41_calls.proofs.Slots.{Seats}
 use Rattle.n41_view.specs.Step.{has}
 use Rattle.n41_view.proofs.Lists.{first_on, first_bare}
 use Rattle.n41_view.proofs.Known.{Known}

@@ -10,9 +10,9 @@ use Rattle.n41_model.specs.declared.words.Item.TheVariants as item
 use Rattle.n41_model.specs.declared.words.Setup.{Setup}
 use Rattle.n41_model.specs.Requests.{bares, bare, bare_waits, outs, out, is_on, knows, has_xid}
 use Rattle.n41_model.specs.Sessions.{session, slots, free_slot, is_free, lowest_free, all_outs, outs_from, unused_xid, xid_after, next_xid, last_xid}
-use Rattle.n41_model.specs.Calls.{plan_next}
-use Rattle.n41_model.specs.Due.{due, item_due, with_plan, on_free, on_free_slot, slot_request, bare_with, bare_due, bare_request, step_plan, own_plan, destroy_plan, may_retry, may_step, may_own, may_begin, may_destroy, is_open}
-use Rattle.n41_model.proofs.Tests.{only_if_some, with_plan_some}
+use Rattle.n41_calls.specs.Calls.{plan_next}
+use Rattle.n41_calls.specs.Due.{due, item_due, with_plan, on_free, on_free_slot, slot_request, bare_with, bare_due, bare_request, step_plan, own_plan, destroy_plan, may_retry, may_step, may_own, may_begin, may_destroy, is_open}
+use Rattle.n41_calls.proofs.Tests.{only_if_some, with_plan_some}
 
 -- a new request
 pub record Fresh (js : List Event) (r : Request) : Type 0 where
@@ -81,16 +81,16 @@ item_placed u js item.Own r e =
     let p = with_plan_some (own_plan js) (on_free_slot u js) r h.1 in
     inr (slot_new u js p.0 r p.1)
 item_placed u js (item.Fresh c) r e =
-    let h = only_if_some (may_begin u js c) (with_plan (plan_next u.callers js c) (on_free_slot u js)) r e in
-    let p = with_plan_some (plan_next u.callers js c) (on_free_slot u js) r h.1 in
+    let h = only_if_some (may_begin u js c) (with_plan (plan_next u.uid u.callers js c) (on_free_slot u js)) r e in
+    let p = with_plan_some (plan_next u.uid u.callers js c) (on_free_slot u js) r h.1 in
     inr (slot_new u js p.0 r p.1)
 item_placed u js item.Destroy r e =
-    let h = only_if_some (may_destroy u js) (with_plan (destroy_plan js) (bare_due u js)) r e in
-    let p = with_plan_some (destroy_plan js) (bare_due u js) r h.1 in
+    let h = only_if_some (may_destroy u js) (with_plan (destroy_plan u.callers js) (bare_due u js)) r e in
+    let p = with_plan_some (destroy_plan u.callers js) (bare_due u js) r h.1 in
     inr (bare_at u js p.0 r (next_xid js) refl p.1)
 
 pub put_placed : (u : Setup) (js : List Event) (i : Item) (r : Request) → due u js i ≡ Some r → Placed js r
-put_placed u js i r e = item_placed u js i r (only_if_some (is_open js) (item_due u js i) r e).1
+put_placed u js i r e = item_placed u js i r (only_if_some (is_open u.callers js) (item_due u js i) r e).1
 
 -- ---- what a new xid differs from
 

@@ -11,8 +11,8 @@ use Rattle.n41_model.specs.declared.words.Setup.{Setup}
 use Rattle.n41_model.specs.Replies.{is_final}
 use Rattle.n41_model.specs.Requests.{request, bares, bare, outs, out, made, is_on, is_bare, is_use_of, has_xid, is_bare_use, without, first}
 use Rattle.n41_model.specs.Sessions.{slots}
-use Rattle.n41_model.specs.Kept.{Kept, May}
-use Rattle.n41_model.proofs.Slots.{Seats, seats}
+use Rattle.n41_calls.specs.Kept.{Kept, May}
+use Rattle.n41_calls.proofs.Slots.{Seats, seats}
 use Rattle.n41_view.proofs.Lists.{one_on, one_bare, knows_is, without_is, joined_is, first_on, first_bare}
 use Rattle.n41_view.proofs.Fresh.{Placed, put_placed, unknown_on, unknown_bare}
 use Rattle.n41_view.specs.Step.{has}

@@ -4,7 +4,7 @@ use Rattle.std.specs.Prelude.{is_none}
 use Rattle.n41_types.specs.declared.plans.Request.{Request}
 use Rattle.n41_model.specs.Requests.{has_xid, knows, without, joined, first, is_on, is_bare}
 use Rattle.n41_model.specs.Sessions.{is_empty}
-use Rattle.n41_model.proofs.Slots.{Seat as OneOn, Lone as OneBare}
+use Rattle.n41_calls.proofs.Slots.{Seat as OneOn, Lone as OneBare}
 use Rattle.n41_view.specs.Step.{has, alone}
 
 -- at most one request

@@ -4,11 +4,12 @@ use Rattle.std.proofs.lemmas.Bool.Decides.{nat_tests}
 use Rattle.std.proofs.lemmas.Option.{slice_get_past, slice_get_within}
 use Rattle.n41_types.specs.declared.plans.Request.{Request}
 use Rattle.n41_journal.specs.declared.events.Event.{Event}
-use Rattle.n41_model.specs.Requests.{used, retried, sent, put_at, doubt, bares, bare, outs, out}
+use Rattle.n41_model.specs.Requests.{used, retried, sent, put_at, begun, doubt, bares, bare, outs, out}
 use Rattle.n41_model.specs.Sessions.{slots, all_outs, outs_from}
-use Rattle.n41_model.specs.Calls.{owner}
+use Rattle.n41_calls.specs.Files.{Files}
+use Rattle.n41_calls.specs.Calls.{owner}
 use Rattle.n41_model.specs.declared.words.Sent.{Sent}
-use Rattle.n41_model.proofs.Slots.{Seats}
+use Rattle.n41_calls.proofs.Slots.{Seats}
 use Rattle.n41_view.specs.View.{View, view, held_of, slot_of, slots_from, seat_of, seats_from}
 use Rattle.n41_view.specs.Step.{has, request_in, holds, held_with, alone, held_requests, requests}
 use Rattle.n41_view.specs.Due.{any_held}
@@ -18,11 +19,11 @@ use Rattle.n41_view.specs.declared.tables.Seat.{Seat}
 use Rattle.n41_view.specs.declared.tables.Slot.{Slot}
 use Rattle.n41_view.proofs.Lists.{one_on, one_bare, alone_is}
 
-abbrev pub tables : Facts → Option Request → List Slot → List Seat → View
-tables f b s p = record { facts = f; bare = b; slots = s; seats = p }
+abbrev pub tables : Facts → Option Request → List Slot → List Seat → Files → View
+tables f b s p h = record { facts = f; bare = b; slots = s; seats = p; files = h }
 
-abbrev pub parts : Request → Bool → Sent → ℕ → Bool → Option ℕ → Held
-parts r k x t v o = record { request = r; retried = k; sent = x; put_at = t; doubt = v; owner = o }
+abbrev pub parts : Request → Bool → Sent → ℕ → ℕ → Bool → Option ℕ → Held
+parts r k x t g v o = record { request = r; retried = k; sent = x; put_at = t; begun = g; doubt = v; owner = o }
 
 abbrev pub slot_with : ℕ → ℕ → Option Held → Slot
 slot_with s u h = record { number = s; used = u; held = h }
@@ -46,22 +47,22 @@ seats_same n js es h i zero = refl
 seats_same n js es h i (suc k) = let a = h i in let b = seats_same n js es h (i + 1) k in cc
 
 -- tables are equal part by part
-pub tables_are : {f g : Facts} {b d : Option Request} {s t : List Slot} {p q : List Seat} → f ≡ g → b ≡ d → s ≡ t → p ≡ q → tables f b s p ≡ tables g d t q
-tables_are a b d e = cc
+pub tables_are : {f g : Facts} {b d : Option Request} {s t : List Slot} {p q : List Seat} {h i : Files} → f ≡ g → b ≡ d → s ≡ t → p ≡ q → h ≡ i → tables f b s p h ≡ tables g d t q i
+tables_are a b d e j = cc
 
 -- ---- what a slot is made of
 
-pub held_same : (n : ℕ) (js es : List Event) (s : ℕ) (q : Option Request) → retried js s ≡ retried es s → sent js s ≡ sent es s → put_at js s ≡ put_at es s → doubt js s ≡ doubt es s → owner n js s ≡ owner n es s → held_of n js s q ≡ held_of n es s q
-held_same n js es s None a b d e f = refl
-held_same n js es s (Some r) a b d e f = parts_are a b d e f where
-  parts_are : {k l : Bool} {x y : Sent} {t u : ℕ} {v w : Bool} {o z : Option ℕ} → k ≡ l → x ≡ y → t ≡ u → v ≡ w → o ≡ z → Some (parts r k x t v o) ≡ Some (parts r l y u w z)
-  parts_are a b d e f = cc
+pub held_same : (n : ℕ) (js es : List Event) (s : ℕ) (q : Option Request) → retried js s ≡ retried es s → sent js s ≡ sent es s → put_at js s ≡ put_at es s → begun js s ≡ begun es s → doubt js s ≡ doubt es s → owner n js s ≡ owner n es s → held_of n js s q ≡ held_of n es s q
+held_same n js es s None a b d g e f = refl
+held_same n js es s (Some r) a b d g e f = parts_are a b d g e f where
+  parts_are : {k l : Bool} {x y : Sent} {t u : ℕ} {i j : ℕ} {v w : Bool} {o z : Option ℕ} → k ≡ l → x ≡ y → t ≡ u → i ≡ j → v ≡ w → o ≡ z → Some (parts r k x t i v o) ≡ Some (parts r l y u j w z)
+  parts_are a b d g e f = cc
 
 pub slot_is : (s : ℕ) {t u : ℕ} {h k : Option Held} → t ≡ u → h ≡ k → slot_with s t h ≡ slot_with s u k
 slot_is s a b = cc
 
-pub slot_same : (n : ℕ) (js es : List Event) (s : ℕ) → used js s ≡ used es s → out js s ≡ out es s → retried js s ≡ retried es s → sent js s ≡ sent es s → put_at js s ≡ put_at es s → doubt js s ≡ doubt es s → owner n js s ≡ owner n es s → slot_of n js s ≡ slot_of n es s
-slot_same n js es s u o a b d e f = slot_is s u (held_same n js es s (out js s) a b d e f ∙ ap (λ (q : Option Request). held_of n es s q) o)
+pub slot_same : (n : ℕ) (js es : List Event) (s : ℕ) → used js s ≡ used es s → out js s ≡ out es s → retried js s ≡ retried es s → sent js s ≡ sent es s → put_at js s ≡ put_at es s → begun js s ≡ begun es s → doubt js s ≡ doubt es s → owner n js s ≡ owner n es s → slot_of n js s ≡ slot_of n es s
+slot_same n js es s u o a b d g e f = slot_is s u (held_same n js es s (out js s) a b d g e f ∙ ap (λ (q : Option Request). held_of n es s q) o)
 
 -- ---- by number
 

@@ -11,9 +11,9 @@ use Rattle.n41_journal.specs.declared.events.Event.{Event}
 use Rattle.n41_journal.specs.declared.events.Event.TheVariants.{Began, Put, Took, CbTook, CbPut, Dialed, DialFailed, Broke, Ticked, Answered, Quit}
 use Rattle.n41_model.specs.declared.words.Item.{Item}
 use Rattle.n41_model.specs.declared.words.Setup.{Setup}
-use Rattle.n41_model.specs.Calls.{command, number}
-use Rattle.n41_model.specs.Kept.{May, MayBegin, MayPut, MayTake, MayBreakBy, MayAnswer}
-use Rattle.n41_model.proofs.Slots.{Seats}
+use Rattle.n41_calls.specs.Calls.{command, number}
+use Rattle.n41_calls.specs.Kept.{May, MayBegin, MayPut, MayTake, MayBreakBy, MayAnswer}
+use Rattle.n41_calls.proofs.Slots.{Seats}
 use Rattle.n41_view.specs.View.{view, seat_of}
 use Rattle.n41_view.specs.May.{MayIn, MayBeginIn, MayPutIn, MayTakeIn, MayBreakIn, MayAnswerIn}
 use Rattle.n41_view.specs.declared.tables.Seat.{Seat}

@@ -9,9 +9,9 @@ use Rattle.n41_model.specs.declared.words.Phase.{Phase}
 use Rattle.n41_model.specs.declared.words.Phase.TheVariants.{Down, Binding, Session, ClientId, Settling, Reclaiming, Completing, Running, Dead}
 use Rattle.n41_model.specs.Requests.{outs, out, used, sent, is_waiting, quit}
 use Rattle.n41_model.specs.Sessions.{is_step_of, plan_of, slots, target, is_empty, is_free, lowest_free, free_slot, highest_from, highest, put_off, next_xid, unused_xid, xid_after, last_xid}
-use Rattle.n41_model.specs.Calls.{command, owner, all_answered}
-use Rattle.n41_model.specs.Due.{waits_from, any_waits, own_from, any_own, finishing}
-use Rattle.n41_model.proofs.Slots.{Seats}
+use Rattle.n41_calls.specs.Calls.{command, owner, all_answered}
+use Rattle.n41_calls.specs.Due.{waits_from, any_waits, own_from, any_own, finishing}
+use Rattle.n41_calls.proofs.Slots.{Seats}
 use Rattle.n41_view.specs.View.{view, held_of, slot_of, slots_from, seats_from, put_offs_of}
 use Rattle.n41_view.specs.Due.{all_idle, finishing_in, waits_held, any_waiting, owns_held, any_owned, is_free_slot, first_free, highest_in, put_off_in, xid_in}
 use Rattle.n41_view.specs.declared.tables.Slot.{Slot}

@@ -6,11 +6,11 @@ use Rattle.n41_types.specs.declared.plans.SlotUse.{SlotUse}
 use Rattle.n41_results.specs.declared.replies.Reply.{Reply}
 use Rattle.n41_journal.specs.declared.events.Event.{Event}
 use Rattle.n41_model.specs.Replies.{verdict_of, bare_verdict_of}
-use Rattle.n41_model.specs.Requests.{request, bare_verdict, verdict, bares, bare, outs, out, is_on, has_xid, retried, sent, put_at, doubt}
+use Rattle.n41_model.specs.Requests.{request, bare_verdict, verdict, bares, bare, outs, out, is_on, has_xid, retried, sent, put_at, begun, doubt}
 use Rattle.n41_model.specs.Sessions.{slots, plan_of}
-use Rattle.n41_model.specs.Calls.{owner, owner_at, ledger, slot_in}
-use Rattle.n41_model.specs.Kept.{MayTake, IsAwaited}
-use Rattle.n41_model.proofs.Slots.{Seats}
+use Rattle.n41_calls.specs.Calls.{owner, owner_at, ledger, slot_in}
+use Rattle.n41_calls.specs.Kept.{MayTake, IsAwaited}
+use Rattle.n41_calls.proofs.Slots.{Seats}
 use Rattle.n41_view.specs.View.{view, held_of, slots_from}
 use Rattle.n41_view.specs.Step.{has, held_with, Said, said_of, said}
 use Rattle.n41_view.specs.declared.tables.Held.{Held}
@@ -54,7 +54,7 @@ said_told_on n js y s r t k o x =
     let h : held_with (slots_from n js 0 (slots js)) y.xid ≡ held_of n js s (out js s) = found_from n js y.xid 0 (slots js) s (omega arith) (let l = k.below s r o in omega arith) a (λ m. only_on js y.xid s r t k e i m (out js m) refl) in
     let b = not_bare js y.xid r u.0 t k e u.1 (bare js) refl in
     let d : told n js y ≡ record { bare = None; slot = Some (verdict_of r (retried js s) y); plan = r.plan; owner = owner n js s } = subst (λ (z : ℕ). told n js y ≡ record { bare = None; slot = Some (verdict_of r (retried js z) y); plan = r.plan; owner = owner n js z }) u.2 (told_on n js y r u.0 e u.1) in
-    rw (h, o) (said_on (bare js) (parts r (retried js s) (sent js s) (put_at js s) (doubt js s) (owner n js s)) y b ∙ sym d)
+    rw (h, o) (said_on (bare js) (parts r (retried js s) (sent js s) (put_at js s) (begun js s) (doubt js s) (owner n js s)) y b ∙ sym d)
 
 pub said_told : (n : ℕ) (js : List Event) (c p : ℕ) (y : Reply) (r : Request) → Seats js → Known js → MayTake js c p y r → said (view n js) y ≡ told n js y
 said_told n js c p y r t k m = by m.awaited where

@@ -10,13 +10,12 @@ use Rattle.n41_model.specs.declared.words.Item.TheVariants as item
 use Rattle.n41_model.specs.declared.words.Phase.{Phase}
 use Rattle.n41_model.specs.declared.words.Phase.TheVariants.{Binding, Session, ClientId, Completing}
 use Rattle.n41_model.specs.declared.words.Setup.{Setup}
-use Rattle.n41_model.specs.Answers.{round_limit}
+use Rattle.n41_calls.specs.Answers.{round_limit}
 use Rattle.n41_model.specs.Requests.{is_waiting}
 use Rattle.n41_model.specs.Sessions.{passed, unused_xid, xid_after}
-use Rattle.n41_model.specs.Calls.{is_ready_call}
-use Rattle.n41_model.specs.Due.{only_if, with_plan, bare_with, goes_again, is_dead, is_running, is_session, bind_in, create_in, own_plan_in, destroy_in}
+use Rattle.n41_calls.specs.Due.{only_if, with_plan, bare_with, goes_again, is_dead, is_running, is_session, bind_in, create_in, own_plan_in, has_handles, client_free, destroy_in}
 use Rattle.n41_view.specs.View.{View}
-use Rattle.n41_view.specs.Step.{requests, call_of, seat_plan}
+use Rattle.n41_view.specs.Step.{requests, seat_ready, seat_plan}
 use Rattle.n41_view.specs.declared.tables.Facts.{Facts}
 use Rattle.n41_view.specs.declared.tables.Held.{Held}
 use Rattle.n41_view.specs.declared.tables.PutOffs.{PutOffs}
@@ -32,10 +31,6 @@ all_idle (s ∷ ss) = is_none s.command && all_idle ss
 -- after Quit, once every command is answered
 abbrev pub finishing_in : View → Bool
 finishing_in w = w.facts.quit && all_idle w.seats
-
--- the command can go on
-abbrev pub is_ready_seat : ℕ → Seat → Bool
-is_ready_seat m s = is_ready_call m s.command (call_of s)
 
 -- ---- slots
 
@@ -117,6 +112,10 @@ plan_for u f Session = create_in f.client
 plan_for u f ClientId = Some (plan.ExchangeId u.verifier u.owner)
 plan_for u f p = None
 
+-- what ends the session, and then the client id where no open is held
+abbrev pub destroy_now : View → Option Plan
+destroy_now w = destroy_in w.facts.session (client_free (has_handles w.files.opens) w.facts.client)
+
 -- ---- the items
 
 abbrev pub goes_held : ℕ → Option Held → Option Request
@@ -129,10 +128,14 @@ goes_slot m (Some s) = goes_held m s.held
 
 abbrev pub begins_seat : Setup → View → Option Seat → Option Request
 begins_seat u w None = None
-begins_seat u w (Some s) = only_if (is_ready_seat w.facts.moment s) (with_plan (seat_plan w.facts.session s) (new_on u w))
+begins_seat u w (Some s) = only_if (seat_ready w.facts w.slots w.files s) (with_plan (seat_plan w.facts u.uid w.files s) (new_on u w))
+
+-- a reply was taken that no server gives which keeps the rules
+abbrev pub is_dead_in : Facts → Bool
+is_dead_in f = is_some f.breach_at || is_dead f.phase
 
 abbrev pub is_open_in : Facts → Bool
-is_open_in f = is_some f.standing && not (is_dead f.phase) && nat_lt f.rounds round_limit
+is_open_in f = is_some f.standing && not (is_dead_in f) && nat_lt f.rounds round_limit
 
 -- a new request without a slot goes only where none is out; a session is made only where no reply is awaited on a slot
 abbrev pub may_step_in : View → Bool
@@ -147,7 +150,7 @@ due_item u w (item.Retry n) = only_if (not (finishing_in w) && w.facts.bound) (g
 due_item u w item.Step = only_if (may_step_in w) (with_plan (plan_for u w.facts w.facts.phase) (new_bare u w))
 due_item u w item.Own = only_if (may_own_in w) (with_plan (own_plan_in w.facts.phase w.facts.completed) (new_on u w))
 due_item u w (item.Fresh c) = only_if (not (finishing_in w) && is_running w.facts.phase) (begins_seat u w (slice_get w.seats c))
-due_item u w item.Destroy = only_if (finishing_in w && is_none w.bare && not (any_waiting w.slots)) (with_plan (destroy_in w.facts.session w.facts.client) (new_bare u w))
+due_item u w item.Destroy = only_if (finishing_in w && is_none w.bare && not (any_waiting w.slots)) (with_plan (destroy_now w) (new_bare u w))
 
 -- the request of this kind that is due on the standing connection
 abbrev pub due_in : Setup → View → Item → Option Request
@@ -157,8 +160,8 @@ due_in u w i = only_if (is_open_in w.facts) (due_item u w i)
 
 -- nothing is left to be put once all is answered
 abbrev pub is_over_in : View → Bool
-is_over_in w = is_none w.facts.standing || (is_none w.bare && is_none (destroy_in w.facts.session w.facts.client))
+is_over_in w = is_none w.facts.standing || (is_none w.bare && is_none (destroy_now w))
 
 -- the run has ended
 abbrev pub has_ended_in : View → Bool
-has_ended_in w = is_dead w.facts.phase || nat_le round_limit w.facts.rounds || (finishing_in w && is_over_in w)
+has_ended_in w = is_dead_in w.facts || nat_le round_limit w.facts.rounds || (finishing_in w && is_over_in w)

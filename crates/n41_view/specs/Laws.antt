@@ -5,9 +5,9 @@ use Rattle.n41_types.specs.declared.plans.Request.{Request}
 use Rattle.n41_journal.specs.declared.events.Event.{Event}
 use Rattle.n41_model.specs.declared.words.Item.{Item}
 use Rattle.n41_model.specs.declared.words.Setup.{Setup}
-use Rattle.n41_model.specs.Due.{due, has_ended}
-use Rattle.n41_model.specs.Answers.{HasCause}
-use Rattle.n41_model.specs.Kept.{Kept, May, IsAwaited, IsOld}
+use Rattle.n41_calls.specs.Due.{due, has_ended}
+use Rattle.n41_calls.specs.Answers.{HasCause}
+use Rattle.n41_calls.specs.Kept.{Kept, May, IsAwaited, IsOld}
 use Rattle.n41_view.specs.declared.tables.Seat.{Seat}
 use Rattle.n41_view.specs.Causes.{CauseIn, awaited_in, is_old_in}
 use Rattle.n41_view.specs.Due.{due_in, has_ended_in}

@@ -11,7 +11,7 @@ use Rattle.n41_journal.specs.declared.events.Event.{Event}
 use Rattle.n41_journal.specs.declared.events.Event.TheVariants.{Began, Put, Took, CbTook, CbPut, Dialed, DialFailed, Broke, Ticked, Answered, Quit}
 use Rattle.n41_model.specs.declared.words.Item.{Item}
 use Rattle.n41_model.specs.declared.words.Setup.{Setup}
-use Rattle.n41_model.specs.Calls.{is_built}
+use Rattle.n41_calls.specs.Walks.{is_built}
 use Rattle.n41_view.specs.View.{View}
 use Rattle.n41_view.specs.Due.{due_in}
 use Rattle.n41_view.specs.Causes.{CauseIn, awaited_in, is_old_in}

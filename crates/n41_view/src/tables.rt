@@ -1,5 +1,6 @@
 ghost use Rattle.std.specs.Prelude.{◌≡◌};
 
+use n41_files::Labels;
 use n41_model::{KnownClient, Phase, Sent, Way};
 use n41_results::SessionMade;
 use n41_types::{Answer, Command, Request};
@@ -38,6 +39,8 @@ pub struct Facts {
     /// The last phase that was neither Down nor Binding.
     pub work: Phase,
     pub session: Option<SessionMade>,
+    /// How many sessions were made.
+    pub sessions: u64,
     pub client: Option<KnownClient>,
     /// How many slots the last session has, 64 at most.
     pub slots: u32,
@@ -52,6 +55,8 @@ pub struct Facts {
     pub put_off: PutOffs,
     /// The place of the first reply that broke the rules.
     pub breach_at: Option<u64>,
+    /// The caller to whose request the last event brought a reply.
+    pub told: Option<u32>,
     /// How many events there are.
     pub events: u64,
 }
@@ -65,6 +70,8 @@ pub struct Held {
     pub sent: Sent,
     /// The moment of its last Put.
     pub put_at: u64,
+    /// The place of the event by which it was put first.
+    pub begun: u64,
     /// A connection broke while it was unanswered.
     pub doubt: bool,
     /// The caller whose it is; None where it is the client's own.
@@ -81,7 +88,7 @@ pub struct Slot {
 }
 
 /// A caller, and its command that is unanswered.
-#[derive(Drop, PartialEq, Eq)]
+#[derive(Drop)]
 pub struct Seat {
     pub caller: u32,
     pub command: Option<Command>,
@@ -101,4 +108,6 @@ pub struct Seat {
     pub earned: Option<Answer>,
     /// How far it has come.
     pub way: Way,
+    /// The handles that its labels name.
+    pub labels: Labels,
 }

@@ -1,5 +1,5 @@
 use Rattle.std.proofs.Common.{◌≡◌, sym, ◌∙◌, ap, None}
-use Rattle.n41_model.specs.Calls.{chosen, in_running, ledger}
+use Rattle.n41_calls.specs.Calls.{chosen, in_running, ledger}
 use Rattle.n41_model.specs.Sessions.{phase}
 use Rattle.n41_model.specs.declared.words.Phase.{Phase}
 use Rattle.n41_model.specs.declared.words.Phase.TheVariants.{Running}

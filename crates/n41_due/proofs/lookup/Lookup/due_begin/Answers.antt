@@ -1,5 +1,5 @@
 use Rattle.std.proofs.Common.{◌∙◌, sym, ap}
-use Rattle.n41_model.specs.Due.{is_running}
+use Rattle.n41_calls.specs.Due.{is_running}
 use Rattle.n41_due.proofs.Begins.{fresh_first}
 use Rattle.n41_due.proofs.lookup.Lookup.due_begin.Goals as goal
 use Rattle.n41_due.proofs.lookup.Lookup.due_begin.Goals.{in-Running, in_default}

@@ -1,5 +1,5 @@
 use Rattle.std.proofs.Common.{◌∷◌, sym, ◌∙◌, ap, subst}
-use Rattle.n41_model.specs.Kept.{May, Kept}
+use Rattle.n41_calls.specs.Kept.{May, Kept}
 use Rattle.n41_view.specs.View.{View}
 use Rattle.n41_view.specs.Step.{step}
 use Rattle.n41_view.proofs.Law.{view_steps}

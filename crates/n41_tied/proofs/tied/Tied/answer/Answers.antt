@@ -3,7 +3,7 @@ use Rattle.std.specs.Option.{IsSome}
 use Rattle.n41_types.specs.declared.commands.Answer.{Answer}
 use Rattle.n41_journal.specs.declared.events.Event.TheVariants.{Answered}
 use Rattle.n41_journal.specs.Journal.{Log}
-use Rattle.n41_model.specs.Kept.{Kept, MayAnswer}
+use Rattle.n41_calls.specs.Kept.{Kept, MayAnswer}
 use Rattle.n41_view.specs.View.{View}
 use Rattle.n41_view.specs.Step.{step}
 use Rattle.n41_view.proofs.Law.{view_steps}

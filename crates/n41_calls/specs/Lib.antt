@@ -1,0 +1,9 @@
+pub mod Walks
+pub mod Values
+pub mod Files
+pub mod Calls
+pub mod Answers
+pub mod Due
+pub mod Kept
+pub mod OneOut
+pub mod Text

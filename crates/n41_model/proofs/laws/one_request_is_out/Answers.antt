@@ -1,5 +1,0 @@
-use Rattle.n41_model.proofs.Slots.{keeps_one_out}
-use Rattle.n41_model.proofs.laws.one_request_is_out.Goals as goal
-
-pub returns : goal.returns
-returns c = keeps_one_out
