@@ -1,3 +1,1 @@
-pub mod Handles
 pub mod Cookies
-pub mod Stays
