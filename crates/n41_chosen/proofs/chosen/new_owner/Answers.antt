@@ -1,4 +1,4 @@
-use Rattle.std.proofs.Common.{◌≡◌, None, sym, ◌∙◌, ap}
+use Rattle.std.proofs.Common.{None, sym, ◌∙◌, ap}
 use Rattle.n41_calls.specs.Calls.{in_running}
 use Rattle.n41_view.specs.Step.{caller_in}
 use Rattle.n41_chosen.proofs.Choices.{then_of, else_of, chosen_same}
