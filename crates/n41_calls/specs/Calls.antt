@@ -84,7 +84,7 @@ pub record Call : Type 0 where
   pub labels : List (List ℕ × ℕ)  -- the handles that the caller's labels name, by rising label
 
 abbrev pub no_way : Way
-no_way = record { at = Root; walked = 0; old = None; listed = None; handle = None; stale = None }
+no_way = record { at = Root; walked = 0; old = None; listed = None; handle = None; stale = None; lowered = false }
 
 abbrev pub no_call : Call
 no_call = record { busy = false; since = None; attempts = 0; earned = None; way = no_way; labels = [] }
@@ -108,12 +108,14 @@ abbrev pub walked_by : Command → List (List ℕ) → Option (List ℕ) → Way
 walked_by c ns None w = w
 walked_by c ns (Some fh) w = walked c (length ns) fh w
 
--- An OK leads on; `h` is the number of the next handle. An open is done with the handle that it makes, and a refresh tells a close its seqid.
+-- An OK leads on; `h` is the number of the next handle. An open is done with the handle that it makes, a refresh tells a close its seqid, and
+-- a close goes on behind its OPEN_DOWNGRADE where it has to.
 abbrev pub step_of : ℕ → Option Command → Plan → Reply → Way → Way
 step_of h (Some c) (plan.Walk from ns) y w = walked_by c ns (reached_in y.body) w
 step_of h c (plan.List at n v size) y w = record w { listed = listed_after w.listed (listing_in y.body) }
 step_of h c (plan.CreateFile d n g o) y w = record w { handle = Some h }
 step_of h c (plan.OpenAt fh m o k) y w = if is_close c then record w { stale = None } else record w { handle = Some h }
+step_of h c (plan.Downgrade fh i m) y w = record w { lowered = true }
 step_of h c p y w = w
 
 -- a close that was told that its stateid is outdated
@@ -137,7 +139,7 @@ took_call t c p w y k =
       busy = false;
       since = if is_put_off_by w k.attempts then Some t.moment else None;
       attempts = attempts_after w k.attempts;
-      earned = answer_in c t.alone k.way.listed p w k.attempts y;
+      earned = answer_in c t.alone k.way p w k.attempts y;
       way = way_after t.handle t.stale c p w y k.way;
       labels = k.labels;
     }

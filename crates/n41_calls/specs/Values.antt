@@ -146,9 +146,13 @@ is_close k = false
 abbrev pub is_outdated : Option Command → Status → Bool
 is_outdated k s = is_close k && is_old_stateid s
 
+-- What a refusal gives. A close whose OPEN_DOWNGRADE was answered OK is done by that, whatever comes of the CLOSE behind it.
+abbrev pub refused : Bool → Status → Answer
+refused lowered s = if lowered then says.Done value.Closed else says.Refused s
+
 -- the answer that a reply gives to the command of whose step it ended this attempt; None where it gives none yet
-abbrev pub answer_in : Option Command → Bool → Option Listed → Plan → Option Verdict → ℕ → Reply → Option Answer
-answer_in k alone l p (Some (v.Ran s)) n y =
-    if is_ok s then done_with (value_of k alone l p y) else if is_again s n || is_outdated k s then None else Some (says.Refused s)
-answer_in k alone l p (Some (v.TooBig s)) n y = Some (says.Refused s)
-answer_in k alone l p w n y = None
+abbrev pub answer_in : Option Command → Bool → Way → Plan → Option Verdict → ℕ → Reply → Option Answer
+answer_in k alone w p (Some (v.Ran s)) n y =
+    if is_ok s then done_with (value_of k alone w.listed p y) else if is_again s n || is_outdated k s then None else Some (refused w.lowered s)
+answer_in k alone w p (Some (v.TooBig s)) n y = Some (refused w.lowered s)
+answer_in k alone w p x n y = None

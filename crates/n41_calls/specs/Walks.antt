@@ -72,7 +72,7 @@ listed_of k = None
 
 -- a command at its beginning stands at the root; its label named this handle
 abbrev pub at_root : Option Place → Option Listed → Option ℕ → Way
-at_root old l h = record { at = Root; walked = 0; old = old; listed = l; handle = h; stale = None }
+at_root old l h = record { at = Root; walked = 0; old = old; listed = l; handle = h; stale = None; lowered = false }
 
 -- the names from the root to the directory that a path's last name is in
 abbrev pub parents : List (List ℕ) → List (List ℕ)

@@ -137,6 +137,8 @@ pub struct Way {
     pub handle: Option<u64>,
     /// Why a close thinks again.
     pub stale: Option<Stale>,
+    /// A close whose OPEN_DOWNGRADE was answered OK: the server's record may let do less than its handle.
+    pub lowered: bool,
 }
 
 /// A kind of request that may be due.
