@@ -1,7 +1,7 @@
 -- The handles of callers: no two callers have one, and what is asked of a handle finds it open until it is answered.
 use Rattle.std.proofs.Common.{◌≡◌, ◌≢◌, ◌⊎◌, inl, inr, ℕ, suc, ◌≤◌, ◌==◌, Bool, true, false, ◌&&◌, ◌||◌, List, [], ◌∷◌, length, Option, Some, None, if◌then◌else◌, refl, sym, ◌∙◌, ap, subst, arith, true≢false}
 use Rattle.std.proofs.lemmas.Bool.Decides.{nat_tests}
-use Rattle.std.specs.Prelude.{is_some, is_none, nat_eq}
+use Rattle.std.specs.Prelude.{is_none, nat_eq}
 use Rattle.std.specs.declared.cmp.Ordering.{Ordering}
 use Rattle.std.specs.declared.cmp.Ordering.TheVariants.{Less, Equal, Greater}
 use Rattle.std.specs.Ordering.{nat_cmp}
@@ -33,18 +33,18 @@ use Rattle.n41_model.specs.declared.words.Way.{Way}
 use Rattle.n41_model.specs.Replies.{is_final, verdict_of, body_verdict}
 use Rattle.n41_model.specs.Requests.{bares, retried, verdict, bare_verdict}
 use Rattle.n41_calls.specs.Answers.{breach_at, place_or, breaks, misleads}
-use Rattle.n41_calls.specs.Walks.{Seen, label_of, new_label, way_of}
+use Rattle.n41_calls.specs.Walks.{label_of, new_label, way_of}
 use Rattle.n41_calls.specs.Values.{is_close}
-use Rattle.n41_calls.specs.Files.{Files, seen_at, seen_of, files_after, files_or, marked_at, forgotten_at}
+use Rattle.n41_calls.specs.Files.{Files, seen_at, files_after, files_or}
 use Rattle.n41_calls.specs.Calls.{Call, Hour, call, owner, files, seen, command, ledger, is_caller, named_in, bound_to, unbound, fresh_call, put_call, took_call, labels_after, answered_call, began_files, answered_files, hour, stale_now, way_after, files_told, owner_at, slot_in}
-use Rattle.n41_calls.specs.Kept.{Kept, May}
+use Rattle.n41_calls.specs.Kept.{May}
 use Rattle.n41_model.specs.Requests.{request}
-use Rattle.n41_calls.proofs.Slots.{Seats, seats}
+use Rattle.n41_calls.proofs.Slots.{Seats}
 use Rattle.n41_view.proofs.Found.{no_use}
-use Rattle.n41_view.proofs.Known.{Known, known}
+use Rattle.n41_view.proofs.Known.{Known}
 use Rattle.n41_view.proofs.Lists.{first_bare}
-use Rattle.n41_moves.proofs.Moves.{puts_again, puts_new, TakesOn, TakesBare, TakesIs, takes_is}
-use Rattle.n41_moves.proofs.Puts.{PutOf, PutIs, NewOn, put_of}
+use Rattle.n41_moves.proofs.Moves.{puts_again, puts_new, TakesOn, TakesIs, takes_is}
+use Rattle.n41_moves.proofs.Puts.{PutOf, PutIs, put_of}
 use Rattle.n41_net.proofs.Verdicts.{ends, final_is}
 use Rattle.n41_told.proofs.Chosen.{IsReady, new_owner, owner_ready}
 use Rattle.n41_told.proofs.Ledgers.{NewLedger, SameLedger, new_moves, again_moves, bare_moves, put_files, took_one, told_one, took_call_on, told_on, took_call_bare, took_files_bare}

@@ -1,12 +1,11 @@
 -- What replies do to the handles that are open: how many were opened, and which stay.
 use Rattle.std.proofs.Common.{◌≡◌, ◌≢◌, ◌⊎◌, inl, inr, ℕ, suc, ◌≤◌, ◌==◌, Bool, true, false, ◌&&◌, List, [], ◌∷◌, Option, Some, None, if◌then◌else◌, refl, sym, ◌∙◌, ap, subst, arith, true≢false}
-use Rattle.std.proofs.lemmas.Bool.Decides.{nat_tests}
 use Rattle.std.proofs.lemmas.Map.Lookups.{exact_unsigned}
 use Rattle.std.specs.Prelude.{is_some, is_none}
 use Rattle.std.specs.declared.cmp.Ordering.{Ordering}
 use Rattle.std.specs.declared.cmp.Ordering.TheVariants.{Less, Equal, Greater}
 use Rattle.std.specs.Ordering.{nat_cmp, is_eq}
-use Rattle.std.specs.Map.{lookup, remove_entry, set_value}
+use Rattle.std.specs.Map.{set_value}
 use Rattle.std.specs.BTreeMap.{insert_entry}
 use Rattle.n41_types.specs.declared.commands.Command.{Command}
 use Rattle.n41_types.specs.declared.commands.Command.TheVariants as asks
@@ -23,14 +22,14 @@ use Rattle.n41_results.specs.declared.results.Res.{Res}
 use Rattle.n41_opens.specs.declared.handles.Open.{Open}
 use Rattle.n41_opens.specs.declared.ids.RecordId.{RecordId}
 use Rattle.n41_opens.specs.Modes.{union}
-use Rattle.n41_opens.specs.Opens.{Table, is_number, open_of, without, others, seated, attached, attach_in, told_of, is_change, changed_by, changed_in, forgotten, gone_by, applied_by, applied_at, applied_in, mark_at, marked, is_marked, telling, heard}
+use Rattle.n41_opens.specs.Opens.{Table, is_number, open_of, without, others, attached, attach_in, told_of, is_change, changed_by, changed_in, forgotten, gone_by, applied_by, applied_at, applied_in, mark_at, marked, is_marked, telling, heard}
 use Rattle.n41_seqid.specs.Fronts.{is_new}
 use Rattle.n41_model.specs.declared.words.Stale.{Stale}
 use Rattle.n41_model.specs.declared.words.Verdict.{Verdict}
 use Rattle.n41_model.specs.declared.words.Verdict.TheVariants as v
 use Rattle.n41_model.specs.declared.words.Way.{Way}
 use Rattle.n41_model.specs.Replies.{is_ok}
-use Rattle.n41_calls.specs.Walks.{turned, walked, is_none_left, ahead, way_of, listed_of, at_root}
+use Rattle.n41_calls.specs.Walks.{turned, is_none_left, ahead, way_of, listed_of, at_root}
 use Rattle.n41_calls.specs.Values.{reached, reached_in, is_outdated}
 use Rattle.n41_calls.specs.Files.{Files, open_stateid, shrunk_stateid, record_named, with_opens, attached_by, opened_by, refreshed_by, lowered_by, closed_by, is_alone, files_by, files_in, files_after, marked_at, forgotten_at}
 use Rattle.n41_calls.specs.Calls.{walked_by, step_of, way_after}
