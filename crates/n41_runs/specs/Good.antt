@@ -68,6 +68,10 @@ IsOnRecord w (Some s) = is_on_record (open_record w (opener s) (file s)) s.handl
 abbrev pub StateKept : ℕ → List Step → Type 0
 StateKept n w = (h : ℕ) → is_marked (open_of (files n (client w)).opens.handles h) ≡ false → IsOnRecord w (seen_at (files n (client w)).opens (Some h))
 
+-- each legal run whose client keeps its rules does
+abbrev pub RunsKeepState : Type 0
+RunsKeepState = (u : Setup) (w : List Step) → Legal w → Kept u (client w) → StateKept u.callers w
+
 pub record Good (u : Setup) (w : List Step) : Type 0 where
   pub one_out : OneOut (client w)
   pub acts_once : ActsOnce u.callers w
