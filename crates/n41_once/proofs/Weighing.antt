@@ -48,7 +48,8 @@ use Rattle.n41_moves.proofs.Single.{Single, took_outs, finishing_answered}
 use Rattle.n41_told.proofs.Told.{Told, named_is, caller_is}
 use Rattle.n41_net.proofs.Lives.{Lives}
 use Rattle.n41_net.proofs.Net.{TakenIs}
-use Rattle.n41_net.proofs.Verdicts.{ends, final_is, has_run, tells_loss, is_dropped, is_too_big}
+use Rattle.n41_net.proofs.Verdicts.{ends, final_is, has_run, is_dropped, is_too_big}
+use Rattle.n41_runs.specs.OpenRules.{tells_loss}
 use Rattle.n41_once.proofs.Acts.{acts_in, no_change, not_change, reading_change, ends_ok, lost_not_ok, body_to, ran_value, walk_value}
 use Rattle.n41_once.proofs.Counted.{once, is_earned, Weighed, Earned, Copies, Counted, keep_weighed, keep_earned}
 use Rattle.n41_model.specs.declared.words.Listed.{Listed}
