@@ -1,5 +1,3 @@
-pub mod Chosen
-pub mod Ledgers
 pub mod Told
 pub mod Telling
 pub mod Settled
