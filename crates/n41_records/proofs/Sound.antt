@@ -73,12 +73,12 @@ given_now p g m s ds a e =
 -- ---- a record is opened
 
 -- what the rules say of the seqid that an OPEN tells: none as great was told of its record
-record IsOpening (ds : List Deed) (s : Stateid) : Type 0 where
-  from : 1 ≤ s.seqid
-  below : s.seqid < change_limit
-  latest : (t : Stateid) → IsTold ds t → t.other ≡ s.other → t.seqid < s.seqid
+pub record IsOpening (ds : List Deed) (s : Stateid) : Type 0 where
+  pub from : 1 ≤ s.seqid
+  pub below : s.seqid < change_limit
+  pub latest : (t : Stateid) → IsTold ds t → t.other ≡ s.other → t.seqid < s.seqid
 
-opening_by : (ds : List Deed) → AreSound ds → (p g : List ℕ) (s : Stateid) (y : Option OpenRecord) → record_at ds p g ≡ y → MayOpen ds y s → IsOpening ds s
+pub opening_by : (ds : List Deed) → AreSound ds → (p g : List ℕ) (s : Stateid) (y : Option OpenRecord) → record_at ds p g ≡ y → MayOpen ds y s → IsOpening ds s
 opening_by ds h p g s None e l = record {
   from = (let i = l.0 in omega arith);
   below = (let i = l.0 in omega arith);

@@ -9,7 +9,7 @@ use Rattle.n41_types.specs.declared.spans.Mode.TheVariants.{Both}
 use Rattle.n41_results.specs.declared.results.Res.{Res}
 use Rattle.n41_calls.specs.Values.{reached}
 use Rattle.n41_calls.specs.Files.{open_stateid, shrunk_stateid}
-use Rattle.n41_runs.specs.Records.{OpenRecord, same_bytes, modes_of, allows, is_other, with_other}
+use Rattle.n41_runs.specs.Records.{OpenRecord, same_bytes, covers, modes_of, allows, is_other, with_other}
 use Rattle.n41_runs.specs.OpenRules.{change_limit, IsNext, Lowers, Closes}
 use Rattle.n41_runs.specs.declared.steps.Step.{Step}
 use Rattle.n41_runs.specs.declared.steps.Step.TheVariants.{Runs}
@@ -153,3 +153,16 @@ pub record IsSound (ds : List Deed) (o f : List ℕ) (x : OpenRecord) : Type 0 w
 pub record AreSound (ds : List Deed) : Type 0 where
   pub records : (o f : List ℕ) (x : OpenRecord) → record_at ds o f ≡ Some x → IsSound ds o f x
   pub changes : (s : Stateid) → IsTold ds s → given ds s.other ≡ true
+
+-- the record of an owner and a file is there, with this "other"
+pub record Stands (ds : List Deed) (o f a : List ℕ) : Type 0 where
+  pub it : OpenRecord
+  pub there : record_at ds o f ≡ Some it
+  pub other : it.other ≡ a
+
+-- and its modes allow what this one does
+pub record Holds (ds : List Deed) (o f a : List ℕ) (n : Mode) : Type 0 where
+  pub it : OpenRecord
+  pub there : record_at ds o f ≡ Some it
+  pub other : it.other ≡ a
+  pub covered : covers it.modes n ≡ true
