@@ -1,2 +1,4 @@
 pub mod Sound
 pub mod Stays
+pub mod Shapes
+pub mod Bridge
