@@ -22,8 +22,8 @@ use Rattle.n41_model.specs.declared.words.Phase.TheVariants.{Down, Binding, Sess
 use Rattle.n41_model.specs.declared.words.Setup.{Setup}
 use Rattle.n41_model.specs.declared.words.Verdict.{Verdict}
 use Rattle.n41_model.specs.declared.words.Verdict.TheVariants as v
-use Rattle.n41_calls.specs.Calls.{command, all_answered}
-use Rattle.n41_calls.specs.Due.{finishing, phase_plan, bind_in, create_in, destroy_in}
+use Rattle.n41_calls.specs.Calls.{command, files, all_answered}
+use Rattle.n41_calls.specs.Due.{finishing, phase_plan, bind_in, create_in, destroy_in, client_free, has_handles}
 use Rattle.n41_calls.specs.Kept.{Kept, May}
 use Rattle.n41_model.specs.Replies.{bare_verdict_of, is_final}
 use Rattle.n41_model.specs.Requests.{bares, bare, out, made, session_in, bare_verdict, verdict, quit, is_bare, is_bare_use, first}
@@ -314,7 +314,7 @@ new_bare u js c p r s a h = by a.why where
   by : ByStep u js r ⊎ ByEnd u js r → Brings u js (Put c p r ∷ js) r
   by (inl w) = let k = step_is u js (phase js) r.plan w.plan in step_by w k.0 k.1
   by (inr w) =
-      let k = end_is (session js) (client js) r.plan w.plan in
+      let k = end_is (session js) (client_free (has_handles (files u.callers js).opens) (client js)) r.plan w.plan in
       rest (λ f. absurd (true≢false (sym f ∙ k.0))) (λ f. absurd (true≢false (sym f ∙ k.1))) (λ f. (w.over, given_some u js s (session js) refl (k.2 f)))
 
 new_on : (u : Setup) (js : List Event) (c p : ℕ) (r : Request) → Seats js → Single u js → NewOn u js r → Brings u js (Put c p r ∷ js) r

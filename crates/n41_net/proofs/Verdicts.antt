@@ -1,5 +1,5 @@
 -- The verdicts of what a server answers to a request with a slot.
-use Rattle.std.proofs.Common.{◌≡◌, Bool, true, false, ◌&&◌, ◌||◌, not, List, [], ◌∷◌, Some, Ok, Err, if◌then◌else◌, refl, sym, ap, arith, true≢false}
+use Rattle.std.proofs.Common.{◌≡◌, Bool, true, false, ◌&&◌, ◌||◌, not, List, [], ◌∷◌, Some, Ok, Err, if◌then◌else◌, refl, sym, ◌∙◌, ap, arith, true≢false}
 use Rattle.std.proofs.lemmas.Bool.Decides.{nat_tests}
 use Rattle.n41_types.specs.declared.plans.Class.{Class}
 use Rattle.n41_types.specs.declared.plans.Class.TheVariants.{Reading}
@@ -17,7 +17,7 @@ use Rattle.n41_results.specs.declared.sessions.Sequenced.{Sequenced}
 use Rattle.n41_results.specs.Results.{ok, status_of}
 use Rattle.n41_model.specs.declared.words.Verdict.{Verdict}
 use Rattle.n41_model.specs.declared.words.Verdict.TheVariants as v
-use Rattle.n41_model.specs.Replies.{is_ok, is_delay, is_not_bound, is_uncached, is_size_refusal, is_reading, is_final, gives_back, repeats, has_its_answer, uncached_verdict, ran_verdict, sequenced_verdict, refused_verdict, body_verdict, verdict_of, sequence_status, status_passes, status_refuses}
+use Rattle.n41_model.specs.Replies.{is_ok, is_delay, is_not_bound, is_uncached, is_size_refusal, is_reading, is_final, gives_back, is_loss, is_half_open, is_unlawful, names_state, repeats, has_its_answer, uncached_verdict, ran_verdict, sequenced_verdict, refused_verdict, body_verdict, verdict_of, sequence_status, status_passes, status_refuses}
 use Rattle.n41_runs.specs.Rules.{IsRun, is_uncached_body, is_gone}
 use Rattle.n41_runs.specs.Steps.{ran_reply, end_status, refusal}
 
@@ -43,17 +43,44 @@ ends w = true
 
 -- ---- a turn that ran
 
-ran_by : (p : Plan) (s : Status) (xs : List Res) (b : Bool) → is_ok s ≡ b → (is_ok s ≡ true → has_its_answer p xs ≡ true) → ran_verdict p s xs ≡ v.Ran s
-ran_by p s xs true e f = rw (e, f e) refl
-ran_by p s xs false e f = rw e refl
+-- an operation that names an open record was told that it is lost
+abbrev pub loses : Plan → Status → Bool
+loses p s = names_state p && is_loss s
 
-sequenced_ran : (p : Plan) (t : Bool) (s : Status) (xs : List Res) → is_uncached s ≡ false → (is_ok s ≡ true → has_its_answer p xs ≡ true) → sequenced_verdict p t s xs ≡ v.Ran s
-sequenced_ran p t s [] e f = ran_by p s [] (is_ok s) refl f
-sequenced_ran p t s (x ∷ []) e f = rw e (ran_by p s (x ∷ []) (is_ok s) refl f)
-sequenced_ran p t s (x ∷ y ∷ xs) e f = ran_by p s (x ∷ y ∷ xs) (is_ok s) refl f
+-- the reply tells so
+abbrev pub tells_loss : Plan → ReplyBody → Bool
+tells_loss p (Results s xs) = loses p s
+tells_loss p b = false
 
-pub run_verdict : (r : Request) (t : Bool) (q : Sequenced) (xs : List Res) → IsRun r q xs → body_verdict r t (ran_reply r q xs).body ≡ v.Ran (end_status ok xs)
-run_verdict r t q xs h = let e = h.echoes in rw e (sequenced_ran r.plan t (end_status ok xs) xs h.cached h.told)
+-- the operations ran: their status is told, or such a loss
+abbrev pub has_run : Plan → ReplyBody → Verdict → Bool
+has_run p b (v.Ran s) = true
+has_run p b v.Breach = tells_loss p b
+has_run p b w = false
+
+unlawful_is : (p : Plan) (s : Status) (xs : List Res) → is_half_open xs ≡ false → (is_ok s ≡ true → has_its_answer p xs ≡ true) → is_unlawful p s xs ≡ loses p s
+unlawful_is p s xs e f = by (is_ok s) refl f where
+  by : (b : Bool) → is_ok s ≡ b → (is_ok s ≡ true → has_its_answer p xs ≡ true) → is_unlawful p s xs ≡ loses p s
+  by true g h = rw (g, h g, e) refl
+  by false g h = rw (g, e) refl
+
+ran_by : (p : Plan) (s : Status) (xs : List Res) → is_half_open xs ≡ false → (is_ok s ≡ true → has_its_answer p xs ≡ true) → ran_verdict p s xs ≡ (if loses p s then v.Breach else v.Ran s)
+ran_by p s xs e f = ap (λ (b : Bool). if b then v.Breach else v.Ran s) (unlawful_is p s xs e f)
+
+sequenced_ran : (p : Plan) (t : Bool) (s : Status) (xs : List Res) → is_half_open xs ≡ false → is_uncached s ≡ false → (is_ok s ≡ true → has_its_answer p xs ≡ true) → sequenced_verdict p t s xs ≡ (if loses p s then v.Breach else v.Ran s)
+sequenced_ran p t s [] o e f = ran_by p s [] o f
+sequenced_ran p t s (x ∷ []) o e f = rw e (ran_by p s (x ∷ []) o f)
+sequenced_ran p t s (x ∷ y ∷ xs) o e f = ran_by p s (x ∷ y ∷ xs) o f
+
+-- a turn that ran ends with its last status, or tells that an open record is lost
+pub run_verdict : (r : Request) (t : Bool) (q : Sequenced) (xs : List Res) → IsRun r q xs → body_verdict r t (ran_reply r q xs).body ≡ (if loses r.plan (end_status ok xs) then v.Breach else v.Ran (end_status ok xs))
+run_verdict r t q xs h = let e = h.echoes in rw e (sequenced_ran r.plan t (end_status ok xs) xs h.whole h.cached h.told)
+
+pub run_has : (r : Request) (t : Bool) (q : Sequenced) (xs : List Res) → IsRun r q xs → has_run r.plan (ran_reply r q xs).body (body_verdict r t (ran_reply r q xs).body) ≡ true
+run_has r t q xs h = ap (λ (x : Verdict). has_run r.plan (ran_reply r q xs).body x) (run_verdict r t q xs h) ∙ by (loses r.plan (end_status ok xs)) refl where
+  by : (b : Bool) → loses r.plan (end_status ok xs) ≡ b → has_run r.plan (ran_reply r q xs).body (if loses r.plan (end_status ok xs) then v.Breach else v.Ran (end_status ok xs)) ≡ true
+  by true e = rw e e
+  by false e = rw e refl
 
 -- ---- a reply that was not kept
 
@@ -97,6 +124,12 @@ delay_verdict p t s e = rw e refl
 pub gone_verdict : (p : Plan) (t : Bool) (s : Status) → is_gone s ≡ true → refused_verdict p t s ≡ v.Breach
 gone_verdict p t s e = let a : is_delay s ≡ false = grind (arith, nat_tests, e) in let b : is_not_bound s ≡ false = grind (arith, nat_tests, e) in let c : is_uncached s ≡ false = grind (arith, nat_tests, e) in let d : is_size_refusal s ≡ false = grind (arith, nat_tests, e) in rw (a, b, c, d) refl
 
+pub gone_loses : (p : Plan) (s : Status) → is_gone s ≡ true → loses p s ≡ false
+gone_loses p s e = let f : is_loss s ≡ false = grind (arith, nat_tests, e) in by (names_state p) f where
+  by : (b : Bool) → is_loss s ≡ false → (b && is_loss s) ≡ false
+  by true f = f
+  by false f = refl
+
 pub unbound_verdict : (p : Plan) (t : Bool) (s : Status) → is_not_bound s ≡ true → refused_verdict p t s ≡ v.Unbound
 unbound_verdict p t s e = let a : is_delay s ≡ false = grind (arith, nat_tests, e) in rw (a, e) refl
 
@@ -116,8 +149,8 @@ refused_ends p t e false false f g = rw (f, g) (rest (is_uncached e) (t && is_re
   rest false b false = refl
 
 ran_ends : (p : Plan) (s : Status) (xs : List Res) → true ≡ ends (ran_verdict p s xs)
-ran_ends p s xs = by (is_ok s && not (has_its_answer p xs)) refl where
-  by : (b : Bool) → (is_ok s && not (has_its_answer p xs)) ≡ b → true ≡ ends (ran_verdict p s xs)
+ran_ends p s xs = by (is_unlawful p s xs) refl where
+  by : (b : Bool) → is_unlawful p s xs ≡ b → true ≡ ends (ran_verdict p s xs)
   by true e = rw e refl
   by false e = rw e refl
 
@@ -162,8 +195,8 @@ refused_big p t e false f = by (is_delay e) (is_not_bound e) (is_uncached e) ref
   by false false false g h i = rw (g, h, i, f) refl
 
 ran_big : (p : Plan) (s : Status) (xs : List Res) → false ≡ is_too_big (ran_verdict p s xs)
-ran_big p s xs = by (is_ok s && not (has_its_answer p xs)) refl where
-  by : (b : Bool) → (is_ok s && not (has_its_answer p xs)) ≡ b → false ≡ is_too_big (ran_verdict p s xs)
+ran_big p s xs = by (is_unlawful p s xs) refl where
+  by : (b : Bool) → is_unlawful p s xs ≡ b → false ≡ is_too_big (ran_verdict p s xs)
   by true e = rw e refl
   by false e = rw e refl
 

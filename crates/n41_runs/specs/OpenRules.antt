@@ -1,5 +1,5 @@
 -- The rules of a server on open records (RFC 8881, sections 8.2, 9.7, 18.2, 18.16 and 18.18). A rule that is marked (own) narrows these.
-use Rattle.std.specs.Prelude.{◌≡◌, ◌⊎◌, ℕ, suc, ◌^◌, ◌==◌, ◌<◌, Bool, true, false, ◌&&◌, ◌||◌, List, [], ◌∷◌, Option, Some, None}
+use Rattle.std.specs.Prelude.{◌≡◌, ℕ, suc, ◌^◌, ◌==◌, ◌<◌, Bool, true, false, ◌&&◌, ◌||◌, List, Option, Some, None}
 use Rattle.std.specs.List.{filter, list_any}
 use Rattle.std.specs.Bool.{beq}
 use Rattle.n41_types.specs.declared.identities.Stateid.{Stateid}

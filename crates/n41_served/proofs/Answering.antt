@@ -29,7 +29,7 @@ use Rattle.n41_moves.proofs.Said.{Said, last_put, slots_are}
 use Rattle.n41_served.proofs.Served.{Served, Says, SaysOn, IsOn, Ran, answers_served}
 use Rattle.n41_moves.proofs.Single.{Single, given, sid_in}
 use Rattle.n41_moves.proofs.Suits.{session_same}
-use Rattle.n41_net.proofs.Verdicts.{is_ran, is_dropped, is_too_big, dropped_verdict, dropped_is, refusal_verdict, delay_verdict, gone_verdict, unbound_verdict, size_verdict}
+use Rattle.n41_net.proofs.Verdicts.{has_run, tells_loss, gone_loses, is_dropped, is_too_big, dropped_verdict, dropped_is, refusal_verdict, delay_verdict, gone_verdict, unbound_verdict, size_verdict}
 use Rattle.n41_runs.specs.Rules.{Sizes, Allowed, Pending, MayRepeat, MayMakeAgain, MayMake, slot_refuses, refuses_by, refuses, is_gone, is_bad_slot, is_misordered, is_out_of_turn, is_uncached_body}
 use Rattle.n41_runs.specs.Server.{last, kept, alive, was_made, is_session, is_end_of, is_bound, slots_given}
 use Rattle.n41_runs.specs.declared.steps.Step.{Step}
@@ -52,12 +52,12 @@ bare_says sizes w j r q p y i e n o l =
 
 -- ---- verdicts that tell little
 
-says_end : {l n : ℕ} {k : Option ReplyBody} {a : Bool} {z : Option Status} {r : Request} {t : Bool} {y : Reply} (x : Verdict) → verdict_of r t y ≡ x → (is_ran x ≡ true → (l ≡ n) × (k ≡ Some y.body)) → (is_dropped x ≡ true → (l ≡ n) × (class_of r.plan ≡ Reading)) → (is_too_big x ≡ true → z ≢ None) → (is_breach x ≡ true → a ≡ false) → Says l n k a z r t y
-says_end x e f g h i = record {
-  ran = λ d. f (sym (ap (λ (b : Verdict). is_ran b) e) ∙ d);
+says_end : {l n : ℕ} {k : Option ReplyBody} {a : Bool} {z : Option Status} {r : Request} {t : Bool} {y : Reply} (x : Verdict) → verdict_of r t y ≡ x → (has_run r.plan y.body x ≡ true → (l ≡ n) × (k ≡ Some y.body)) → (is_dropped x ≡ true → (l ≡ n) × (class_of r.plan ≡ Reading)) → (is_too_big x ≡ true → z ≢ None) → (is_breach x ≡ true → tells_loss r.plan y.body ≡ false → a ≡ false) → Says l n k a z r t y
+says_end {l} {n} {k} {a} {z} {r} {t} {y} x e f g h i = record {
+  ran = λ d. f (sym (ap (λ (b : Verdict). has_run r.plan y.body b) e) ∙ d);
   dropped = λ d. g (sym (ap (λ (b : Verdict). is_dropped b) e) ∙ d);
   big = λ d. h (sym (ap (λ (b : Verdict). is_too_big b) e) ∙ d);
-  breach = λ d. i (sym (ap (λ (b : Verdict). is_breach b) e) ∙ d);
+  breach = λ d o. i (sym (ap (λ (b : Verdict). is_breach b) e) ∙ d) o;
 }
 
 no : {A : Type 0} → false ≡ true → A
@@ -91,11 +91,12 @@ repeats_says sizes w j r p y i s b m q a o l = by m.answer where
   fate_is : fate w (last_put (client w) a.slot) ≡ None
   fate_is = subst (λ (k : ℕ). fate w k ≡ None) (sym l) b.fresh
 
-  ran_is : kept w a.sid a.slot ≡ Some y.body → (t : Bool) → is_ran (body_verdict q t y.body) ≡ true
+  ran_is : kept w a.sid a.slot ≡ Some y.body → (t : Bool) → has_run q.plan y.body (body_verdict q t y.body) ≡ true
   ran_is e = subst (λ (k : Option ReplyBody). Ran q k) e (s.kept_ran q a o last_is)
 
-  ran_says : (x : Verdict) → verdict_of q (retried (client w) a.slot) y ≡ x → is_ran x ≡ true → kept w a.sid a.slot ≡ Some y.body → SaysOn sizes w q a y
-  ran_says (v.Ran st) e f k = says_end (v.Ran st) e (λ _. (last_is, k)) (λ z. no z) (λ z. no z) (λ z. no z)
+  ran_says : (x : Verdict) → verdict_of q (retried (client w) a.slot) y ≡ x → has_run q.plan y.body x ≡ true → kept w a.sid a.slot ≡ Some y.body → SaysOn sizes w q a y
+  ran_says (v.Ran st) e f k = says_end (v.Ran st) e (λ _. (last_is, k)) (λ z. no z) (λ z. no z) (λ z _. no z)
+  ran_says v.Breach e f k = says_end v.Breach e (λ _. (last_is, k)) (λ z. no z) (λ z. no z) (λ _ z. absurd (true≢false (sym f ∙ z)))
   ran_says x e f k = no f
 
   by : (kept w p.sid p.slot ≡ Some y.body) ⊎ ((p.cache ≡ false) × (is_uncached_body r.slot y.body ≡ true) × (shape_of r y ≡ None)) → SaysOn sizes w q a y
@@ -104,7 +105,7 @@ repeats_says sizes w j r p y i s b m q a o l = by m.answer where
       let c : class_of q.plan ≡ Reading = reading_class (class_of q.plan) (sym ((i.out_turn a.slot q a o.is_out o.placed).2) ∙ (ap (λ (x : SlotUse). x.cache) g ∙ e)) in
       let t = retried_is w sizes q a s o fate_is last_is (retried (client w) a.slot) refl in
       let x : verdict_of q (retried (client w) a.slot) y ≡ uncached_verdict q.plan (retried (client w) a.slot) = dropped_verdict q (retried (client w) a.slot) y.body (subst (λ (n : Request). is_uncached_body n.slot y.body ≡ true) (sym d) f) in
-      says_end v.Uncached (x ∙ dropped_is q.plan (retried (client w) a.slot) t c) (λ z. no z) (λ _. (last_is, c)) (λ z. no z) (λ z. no z)
+      says_end v.Uncached (x ∙ dropped_is q.plan (retried (client w) a.slot) t c) (λ z. no z) (λ _. (last_is, c)) (λ z. no z) (λ z _. no z)
 
 pub repeats_served : (u : Setup) (sizes : Sizes) (w : List Step) (j : ℕ) (r : Request) (y : Reply) → Single u (client w) → Said (client w) → Served sizes w → Allowed sizes w (Repeats j r y) → Served sizes (Repeats j r y ∷ w)
 repeats_served u sizes w j r y z i s a = answers_served u sizes w (Repeats j r y) j r y z s (record {
@@ -177,11 +178,11 @@ refusal_says u sizes w j r p s kn z i lv sv o e = by (or_case (is_delay s) (if a
   there l f = by_fourth (or_case ((is_bad_slot s && nat_le (slots_given w p.sid) p.slot) || (is_not_bound s && not (is_bound w p.sid (carrier (client w) j))) || refuses (sizes r) s) (is_misordered s && is_out_of_turn p.turn (last w p.sid p.slot)) f) where
     by_first : ((is_bad_slot s && nat_le (slots_given w p.sid) p.slot) ≡ true) ⊎ ((is_not_bound s && not (is_bound w p.sid (carrier (client w) j))) ≡ true) → SaysOn sizes w r p (refusal r s)
     by_first (inl g) = let h = (and_case (is_bad_slot s) (nat_le (slots_given w p.sid) p.slot) g).1 in absurd (grind (arith, nat_tests, h, slot_given))
-    by_first (inr g) = let h = (and_case (is_not_bound s) (not (is_bound w p.sid (carrier (client w) j))) g).0 in says_end v.Unbound (verdict_is ∙ unbound_verdict r.plan t s h) (λ x. no x) (λ x. no x) (λ x. no x) (λ x. no x)
+    by_first (inr g) = let h = (and_case (is_not_bound s) (not (is_bound w p.sid (carrier (client w) j))) g).0 in says_end v.Unbound (verdict_is ∙ unbound_verdict r.plan t s h) (λ x. no x) (λ x. no x) (λ x. no x) (λ x _. no x)
 
     by_third : ((is_bad_slot s && nat_le (slots_given w p.sid) p.slot) || (is_not_bound s && not (is_bound w p.sid (carrier (client w) j)))) ≡ true ⊎ (refuses (sizes r) s ≡ true) → SaysOn sizes w r p (refusal r s)
     by_third (inl g) = by_first (or_case (is_bad_slot s && nat_le (slots_given w p.sid) p.slot) (is_not_bound s && not (is_bound w p.sid (carrier (client w) j))) g)
-    by_third (inr g) = let h = size_some (sizes r) s g in says_end (v.TooBig s) (verdict_is ∙ size_verdict r.plan t s h.1) (λ x. no x) (λ x. no x) (λ _. h.0) (λ x. no x)
+    by_third (inr g) = let h = size_some (sizes r) s g in says_end (v.TooBig s) (verdict_is ∙ size_verdict r.plan t s h.1) (λ x. no x) (λ x. no x) (λ _. h.0) (λ x _. no x)
 
     by_fourth : ((is_bad_slot s && nat_le (slots_given w p.sid) p.slot) || (is_not_bound s && not (is_bound w p.sid (carrier (client w) j))) || refuses (sizes r) s) ≡ true ⊎ ((is_misordered s && is_out_of_turn p.turn (last w p.sid p.slot)) ≡ true) → SaysOn sizes w r p (refusal r s)
     by_fourth (inl g) = by_third (or_case ((is_bad_slot s && nat_le (slots_given w p.sid) p.slot) || (is_not_bound s && not (is_bound w p.sid (carrier (client w) j)))) (refuses (sizes r) s) g)
@@ -189,10 +190,10 @@ refusal_says u sizes w j r p s kn z i lv sv o e = by (or_case (is_delay s) (if a
 
   alive_by : (b : Bool) → alive w p.sid ≡ b → (if b then ((is_bad_slot s && nat_le (slots_given w p.sid) p.slot) || (is_not_bound s && not (is_bound w p.sid (carrier (client w) j))) || refuses (sizes r) s || (is_misordered s && is_out_of_turn p.turn (last w p.sid p.slot))) else is_gone s) ≡ true → SaysOn sizes w r p (refusal r s)
   alive_by true l f = there l f
-  alive_by false l f = says_end v.Breach (verdict_is ∙ gone_verdict r.plan t s f) (λ x. no x) (λ x. no x) (λ x. no x) (λ _. l)
+  alive_by false l f = says_end v.Breach (verdict_is ∙ gone_verdict r.plan t s f) (λ x. absurd (true≢false (sym x ∙ gone_loses r.plan s f))) (λ x. no x) (λ x. no x) (λ _ _. l)
 
   by : (is_delay s ≡ true) ⊎ ((if alive w p.sid then ((is_bad_slot s && nat_le (slots_given w p.sid) p.slot) || (is_not_bound s && not (is_bound w p.sid (carrier (client w) j))) || refuses (sizes r) s || (is_misordered s && is_out_of_turn p.turn (last w p.sid p.slot))) else is_gone s) ≡ true) → SaysOn sizes w r p (refusal r s)
-  by (inl f) = says_end v.Delayed (verdict_is ∙ delay_verdict r.plan t s f) (λ x. no x) (λ x. no x) (λ x. no x) (λ x. no x)
+  by (inl f) = says_end v.Delayed (verdict_is ∙ delay_verdict r.plan t s f) (λ x. no x) (λ x. no x) (λ x. no x) (λ x _. no x)
   by (inr f) = alive_by (alive w p.sid) refl f
 
 pub refuses_served : (u : Setup) (sizes : Sizes) (w : List Step) (j : ℕ) (r : Request) (s : Status) → Known (client w) → Single u (client w) → Said (client w) → Lives u w → Served sizes w → Allowed sizes w (Refuses j r s) → Served sizes (Refuses j r s ∷ w)

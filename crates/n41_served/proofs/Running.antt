@@ -9,7 +9,6 @@ use Rattle.n41_results.specs.declared.replies.Reply.{Reply}
 use Rattle.n41_results.specs.declared.replies.ReplyBody.{ReplyBody}
 use Rattle.n41_results.specs.declared.results.Res.{Res}
 use Rattle.n41_results.specs.declared.sessions.Sequenced.{Sequenced}
-use Rattle.n41_results.specs.Results.{ok}
 use Rattle.n41_model.specs.declared.words.Sent.TheVariants.{Waits}
 use Rattle.n41_model.specs.declared.words.Setup.{Setup}
 use Rattle.n41_model.specs.declared.words.Verdict.{Verdict}
@@ -23,12 +22,12 @@ use Rattle.n41_moves.proofs.Said.{Said, last_put}
 use Rattle.n41_served.proofs.Served.{Served, Says, SaysOn, IsOn, IsCopy, Ran, body_in}
 use Rattle.n41_moves.proofs.Single.{Single, given, sid_in}
 use Rattle.n41_moves.proofs.Suits.{session_same, session_itself}
-use Rattle.n41_net.proofs.Verdicts.{is_ran, is_dropped, is_too_big, run_verdict}
+use Rattle.n41_net.proofs.Verdicts.{has_run, is_dropped, is_too_big, run_has}
 use Rattle.n41_runs.specs.Rules.{Sizes, Allowed, Pending, MayRun}
 use Rattle.n41_runs.specs.Server.{last, kept, alive, is_session}
 use Rattle.n41_runs.specs.declared.steps.Step.{Step}
 use Rattle.n41_runs.specs.declared.steps.Step.TheVariants.{Runs}
-use Rattle.n41_runs.specs.Steps.{client, message, fate, ran_reply, end_status}
+use Rattle.n41_runs.specs.Steps.{client, message, fate, ran_reply}
 
 -- what runs is the request that is out on its slot, at the turn that was used last
 pub record IsNext (w : List Step) (r : Request) (p : SlotUse) : Type 0 where
@@ -112,12 +111,18 @@ fate_was w j r q xs k e = at (j == k) refl where
   at true f = absurd (let g : Some (ran_reply r q xs) ≡ None = (rw f at e) in cc)
   at false f = ((λ d. absurd (grind (arith, nat_tests, f, d))), (rw f at e))
 
-says_new : {l n : ℕ} {k : Option ReplyBody} {a : Bool} {z : Option Status} {r : Request} {t : Bool} {y : Reply} (x : Verdict) → verdict_of r t y ≡ x → is_ran x ≡ true → (l ≡ n) × (k ≡ Some y.body) → Says l n k a z r t y
+says_new : {l n : ℕ} {k : Option ReplyBody} {a : Bool} {z : Option Status} {r : Request} {t : Bool} {y : Reply} (x : Verdict) → verdict_of r t y ≡ x → has_run r.plan y.body x ≡ true → (l ≡ n) × (k ≡ Some y.body) → Says l n k a z r t y
 says_new (v.Ran s) e f h = record {
   ran = λ d. h;
   dropped = λ d. absurd (true≢false (sym d ∙ ap (λ (b : Verdict). is_dropped b) e));
   big = λ d. absurd (true≢false (sym d ∙ ap (λ (b : Verdict). is_too_big b) e));
-  breach = λ d. absurd (true≢false (sym d ∙ ap (λ (b : Verdict). is_breach b) e));
+  breach = λ d _. absurd (true≢false (sym d ∙ ap (λ (b : Verdict). is_breach b) e));
+}
+says_new v.Breach e f h = record {
+  ran = λ d. h;
+  dropped = λ d. absurd (true≢false (sym d ∙ ap (λ (b : Verdict). is_dropped b) e));
+  big = λ d. absurd (true≢false (sym d ∙ ap (λ (b : Verdict). is_too_big b) e));
+  breach = λ d g. absurd (true≢false (sym f ∙ g));
 }
 says_new x e f h = absurd (true≢false (sym f))
 
@@ -126,7 +131,7 @@ says_none f g h s = record {
   ran = λ d. absurd (f (s.ran d).0);
   dropped = λ d. absurd (f (s.dropped d).0);
   big = λ d. absurd (s.big d g);
-  breach = λ d. absurd (true≢false (sym h ∙ s.breach d));
+  breach = λ d g. absurd (true≢false (sym h ∙ s.breach d g));
 }
 
 pub runs_served : (u : Setup) (sizes : Sizes) (w : List Step) (j : ℕ) (r : Request) (q : Sequenced) (xs : List Res) → Seats (client w) → Single u (client w) → Said (client w) → Served sizes w → Allowed sizes w (Runs j r q xs) → Served sizes (Runs j r q xs ∷ w)
@@ -209,7 +214,7 @@ runs_served u sizes w j r q xs t z i s (b, (p, m)) = record {
   big_at k a o e false f = let d = last_old a.sid a.slot f in let g = s.big k a o e in omega arith
 
   ran : Ran r (Some (ran_reply r q xs).body)
-  ran c = ap (λ (y : Verdict). is_ran y) (run_verdict r c q xs m.answer)
+  ran c = run_has r c q xs m.answer
 
   kept_at : (k : Request) (a : SlotUse) → IsOn (client w) k a → last (Runs j r q xs ∷ w) a.sid a.slot ≡ used (client w) a.slot → (f : Bool) → (p.slot == a.slot) ≡ f → Ran k (kept (Runs j r q xs ∷ w) a.sid a.slot)
   kept_at k a o e true f =
@@ -250,8 +255,8 @@ runs_served u sizes w j r q xs t z i s (b, (p, m)) = record {
   here_tells y e true f g =
       let h : Some (ran_reply r q xs) ≡ Some y = (rw f at g) in
       let d : ran_reply r q xs ≡ y = cc in
-      let x = run_verdict r (retried (client w) p.slot) q xs m.answer in
-      let c : SaysOn sizes (Runs j r q xs ∷ w) r p (ran_reply r q xs) = says_new (v.Ran (end_status ok xs)) x refl (last_new p.sid p.slot refl refl ∙ n.turn, kept_new) in
+      let x = ran (retried (client w) p.slot) in
+      let c : SaysOn sizes (Runs j r q xs ∷ w) r p (ran_reply r q xs) = says_new (verdict_of r (retried (client w) p.slot) (ran_reply r q xs)) refl x (last_new p.sid p.slot refl refl ∙ n.turn, kept_new) in
       subst (λ (k : Reply). SaysOn sizes (Runs j r q xs ∷ w) r p k) d c
   here_tells y e false f g = says_none last_not m.fits m.there (s.tells r p y n.on e (rw f at g))
 

@@ -17,7 +17,7 @@ use Rattle.n41_model.specs.Requests.{out, used, sent, retried, doubt}
 use Rattle.n41_net.proofs.Net.{Serves}
 use Rattle.n41_moves.proofs.Said.{last_put}
 use Rattle.n41_moves.proofs.Single.{Single, given, sid_in}
-use Rattle.n41_net.proofs.Verdicts.{is_ran, is_dropped, is_too_big}
+use Rattle.n41_net.proofs.Verdicts.{has_run, tells_loss, is_dropped, is_too_big}
 use Rattle.n41_runs.specs.Rules.{Sizes}
 use Rattle.n41_runs.specs.Server.{last, kept, alive}
 use Rattle.n41_runs.specs.declared.steps.Step.{Step}
@@ -31,10 +31,10 @@ pub record IsOn (js : List Event) (r : Request) (p : SlotUse) : Type 0 where
 -- What an answer to a request that is out tells: of the last turn that ran, the last that was used, the reply that is kept, whether the
 -- session is there, and what the sizes say of the request.
 pub record Says (l n : ℕ) (k : Option ReplyBody) (a : Bool) (z : Option Status) (r : Request) (t : Bool) (y : Reply) : Type 0 where
-  pub ran : is_ran (verdict_of r t y) ≡ true → (l ≡ n) × (k ≡ Some y.body)
+  pub ran : has_run r.plan y.body (verdict_of r t y) ≡ true → (l ≡ n) × (k ≡ Some y.body)
   pub dropped : is_dropped (verdict_of r t y) ≡ true → (l ≡ n) × (class_of r.plan ≡ Reading)
   pub big : is_too_big (verdict_of r t y) ≡ true → z ≢ None
-  pub breach : is_breach (verdict_of r t y) ≡ true → a ≡ false
+  pub breach : is_breach (verdict_of r t y) ≡ true → tells_loss r.plan y.body ≡ false → a ≡ false
 
 abbrev pub SaysOn : Sizes → List Step → Request → SlotUse → Reply → Type 0
 SaysOn sizes w r p y = Says (last w p.sid p.slot) (used (client w) p.slot) (kept w p.sid p.slot) (alive w p.sid) (sizes r) r (retried (client w) p.slot) y
@@ -46,7 +46,7 @@ body_in (Some y) = Some y.body
 -- the kept reply is one with which the operations ran
 abbrev pub Ran : Request → Option ReplyBody → Type 0
 Ran r None = ⊥
-Ran r (Some b) = (t : Bool) → is_ran (body_verdict r t b) ≡ true
+Ran r (Some b) = (t : Bool) → has_run r.plan b (body_verdict r t b) ≡ true
 
 -- the message is a copy of what was put with the last turn of its slot, and no size refuses it
 pub record IsCopy (sizes : Sizes) (js : List Event) (k : ℕ) (r : Request) (p : SlotUse) : Type 0 where
@@ -146,7 +146,7 @@ answers_served u sizes w st j r y z v a = record {
     ran = λ e. let d = s.same in let f = h.ran (rw d at e) in (a.lasts p.sid p.slot ∙ rw d f.0, a.kepts p.sid p.slot ∙ f.1);
     dropped = λ e. let d = s.same in let f = h.dropped (rw d at e) in (a.lasts p.sid p.slot ∙ rw d f.0, f.1);
     big = λ e. let d = s.same in h.big (rw d at e);
-    breach = λ e. let d = s.same in still_dead (alive w p.sid) (alive (st ∷ w) p.sid) (a.lives p.sid g) (h.breach (rw d at e));
+    breach = λ e f. let d = s.same in still_dead (alive w p.sid) (alive (st ∷ w) p.sid) (a.lives p.sid g) (h.breach (rw d at e) f);
   }
 
   tells_by : (q : Request) (p : SlotUse) (x : Reply) → IsOn (client w) q p → sent (client w) p.slot ≡ Waits → ((j ≡ last_put (client w) p.slot) × (y ≡ x)) ⊎ (fate w (last_put (client w) p.slot) ≡ Some x) → SaysOn sizes (st ∷ w) q p x

@@ -3,6 +3,7 @@ use Rattle.std.proofs.Common.{◌≡◌, ◌≢◌, ◌⊎◌, inl, inr, ℕ, su
 use Rattle.std.proofs.lemmas.Bool.Decides.{nat_tests}
 use Rattle.std.specs.Prelude.{is_some}
 use Rattle.n41_types.specs.declared.identities.SessionId.{SessionId}
+use Rattle.n41_types.specs.declared.plans.Plan.{Plan}
 use Rattle.n41_types.specs.declared.plans.Request.{Request}
 use Rattle.n41_types.specs.declared.plans.SlotUse.{SlotUse}
 use Rattle.n41_results.specs.declared.replies.Reply.{Reply}
@@ -31,7 +32,7 @@ use Rattle.n41_served.proofs.Running.{runs_served}
 use Rattle.n41_moves.proofs.Said.{Said, said, last_put, made_first, sent_after_not, gives_final}
 use Rattle.n41_served.proofs.Served.{Served, SaysOn, IsOn, Ran, body_in}
 use Rattle.n41_moves.proofs.Single.{Single, single, given, sid_in, or_made}
-use Rattle.n41_net.proofs.Verdicts.{is_ran, is_dropped, is_too_big, ends, final_is, gives_is}
+use Rattle.n41_net.proofs.Verdicts.{has_run, tells_loss, is_dropped, is_too_big, ends, final_is, gives_is}
 use Rattle.n41_runs.specs.Rules.{IsNoReply, Sizes, LegalBy, MayBeTaken}
 use Rattle.n41_runs.specs.Server.{last, kept, alive}
 use Rattle.n41_runs.specs.declared.steps.Step.{Step}
@@ -40,13 +41,16 @@ use Rattle.n41_runs.specs.Steps.{client, message, fate}
 
 -- ---- a slot after a final reply
 
-ended_kinds : (x : Verdict) → ends x ≡ true → is_too_big x ≡ false → (is_ran x ≡ true) ⊎ ((is_dropped x ≡ true) ⊎ (is_breach x ≡ true))
-ended_kinds (v.Ran s) e f = inl refl
-ended_kinds v.Uncached e f = inr (inl refl)
-ended_kinds v.Breach e f = inr (inr refl)
-ended_kinds (v.TooBig s) e f = absurd (true≢false f)
-ended_kinds v.Delayed e f = absurd (true≢false (sym e))
-ended_kinds v.Unbound e f = absurd (true≢false (sym e))
+ended_kinds : (p : Plan) (b : ReplyBody) (x : Verdict) → ends x ≡ true → is_too_big x ≡ false → (has_run p b x ≡ true) ⊎ ((is_dropped x ≡ true) ⊎ ((is_breach x ≡ true) × (tells_loss p b ≡ false)))
+ended_kinds p b (v.Ran s) e f = inl refl
+ended_kinds p b v.Uncached e f = inr (inl refl)
+ended_kinds p b v.Breach e f = by (tells_loss p b) refl where
+  by : (d : Bool) → tells_loss p b ≡ d → (tells_loss p b ≡ true) ⊎ ((is_dropped v.Breach ≡ true) ⊎ ((is_breach v.Breach ≡ true) × (tells_loss p b ≡ false)))
+  by true g = inl g
+  by false g = inr (inr (refl, g))
+ended_kinds p b (v.TooBig s) e f = absurd (true≢false f)
+ended_kinds p b v.Delayed e f = absurd (true≢false (sym e))
+ended_kinds p b v.Unbound e f = absurd (true≢false (sym e))
 
 if_eq : {A : Type 0} (b t : Bool) (x y : A) → b ≡ t → (if b then x else y) ≡ (if t then x else y)
 if_eq b t x y e = ap (λ (z : Bool). if z then x else y) e
@@ -144,23 +148,24 @@ took_slot u sizes w k c m y r p t z s f a l = by (is_final y) refl where
     gone = out_is true e;
     turn_used = λ j q x d i v n. let low = b.turn_used j q x d i v n in let u = used_is false g in omega arith;
     last_used = λ i d. let low = b.last_used i d in let u = used_is false g in omega arith;
-    free = λ i d n. free_at i (session i d) n (used_is false g) (ended_kinds verdict (sym (final_is r (retried (client w) p.slot) y) ∙ e) (sym (gives_is r (retried (client w) p.slot) y) ∙ g));
+    free = λ i d n. free_at i (session i d) n (used_is false g) (ended_kinds r.plan y.body verdict (sym (final_is r (retried (client w) p.slot) y) ∙ e) (sym (gives_is r (retried (client w) p.slot) y) ∙ g));
   } where
-    free_at : (i : SessionId) → p.sid ≡ i → alive w i ≡ true → used (Took c m y ∷ client w) p.slot ≡ used (client w) p.slot → (is_ran verdict ≡ true) ⊎ ((is_dropped verdict ≡ true) ⊎ (is_breach verdict ≡ true)) → used (Took c m y ∷ client w) p.slot ≤ last w i p.slot
+    free_at : (i : SessionId) → p.sid ≡ i → alive w i ≡ true → used (Took c m y ∷ client w) p.slot ≡ used (client w) p.slot → (has_run r.plan y.body verdict ≡ true) ⊎ ((is_dropped verdict ≡ true) ⊎ ((is_breach verdict ≡ true) × (tells_loss r.plan y.body ≡ false))) → used (Took c m y ∷ client w) p.slot ≤ last w i p.slot
     free_at i e n u (inl d) = let x = (says.ran d).0 in subst (λ (j : SessionId). used (Took c m y ∷ client w) p.slot ≤ last w j p.slot) e (omega arith)
     free_at i e n u (inr (inl d)) = let x = (says.dropped d).0 in subst (λ (j : SessionId). used (Took c m y ∷ client w) p.slot ≤ last w j p.slot) e (omega arith)
-    free_at i e n u (inr (inr d)) = absurd (true≢false (sym (subst (λ (j : SessionId). alive w j ≡ true) (sym e) n) ∙ says.breach d))
+    free_at i e n u (inr (inr d)) = absurd (true≢false (sym (subst (λ (j : SessionId). alive w j ≡ true) (sym e) n) ∙ says.breach d.0 d.1))
 
   -- the kept reply is no reply after which the request goes again
   not_kept : is_final y ≡ false → (x : Option ReplyBody) → Some y.body ≡ x → Ran r x → ⊥
   not_kept e None g h = h
   not_kept e (Some d) g h =
       let q : y.body ≡ d = cc in
-      let n : is_ran verdict ≡ true = subst (λ (i : ReplyBody). is_ran (body_verdict r (retried (client w) p.slot) i) ≡ true) (sym q) (h (retried (client w) p.slot)) in
+      let n : has_run r.plan y.body verdict ≡ true = subst (λ (i : ReplyBody). has_run r.plan i (body_verdict r (retried (client w) p.slot) i) ≡ true) (sym q) (h (retried (client w) p.slot)) in
       let x : ends verdict ≡ false = sym (final_is r (retried (client w) p.slot) y) ∙ e in
       ran_ends verdict n x where
-        ran_ends : (i : Verdict) → is_ran i ≡ true → ends i ≡ false → ⊥
+        ran_ends : (i : Verdict) → has_run r.plan y.body i ≡ true → ends i ≡ false → ⊥
         ran_ends (v.Ran s) n x = true≢false x
+        ran_ends v.Breach n x = true≢false x
         ran_ends i n x = absurd (true≢false (sym n))
 
   goes_on : is_final y ≡ false → Slot sizes w (client w) (Took c m y ∷ client w) p.slot
