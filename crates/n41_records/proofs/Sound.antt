@@ -153,7 +153,7 @@ lowering_by ds g i m s (Some y) e l = let h = named_is ds g i y e in (h.0, y, re
 pub lowering_is : (ds : List Deed) (g : List ℕ) (i : Stateid) (m : Mode) (s : Stateid) → MayFollow ds (lowers g i m s) → (o : List ℕ) × (x : OpenRecord) × Lowering ds g i m s o x
 lowering_is ds g i m s l = lowering_by ds g i m s (record_named ds g i) refl l
 
-lowered_is : (m : Mode) (s : Stateid) (z : Option OpenRecord) (x : OpenRecord) → once_lowered m s z ≡ Some x → (y : OpenRecord) × (z ≡ Some y) × (x.other ≡ y.other) × (x.seqid ≡ s.seqid)
+pub lowered_is : (m : Mode) (s : Stateid) (z : Option OpenRecord) (x : OpenRecord) → once_lowered m s z ≡ Some x → (y : OpenRecord) × (z ≡ Some y) × (x.other ≡ y.other) × (x.seqid ≡ s.seqid)
 lowered_is m s None x e = absurd (no_some x e)
 lowered_is m s (Some y) x e = (y, refl, let h = some_is (record { other = y.other; seqid = s.seqid; modes = filter (λ n. allows m n) y.modes }) x e in ap (λ (z : OpenRecord). z.other) (sym h), let h = some_is (record { other = y.other; seqid = s.seqid; modes = filter (λ n. allows m n) y.modes }) x e in ap (λ (z : OpenRecord). z.seqid) (sym h))
 
@@ -218,7 +218,7 @@ lowered_changes ds h g i m s p y l t (inr q) = h.changes t q
 
 -- ---- a record is closed
 
-closed_told : (ds : List Deed) (g : List ℕ) (i s : Stateid) (t : Stateid) → IsTold (closes g i s ∷ ds) t → IsTold ds t
+pub closed_told : (ds : List Deed) (g : List ℕ) (i s : Stateid) (t : Stateid) → IsTold (closes g i s ∷ ds) t → IsTold ds t
 closed_told ds g i s t (inl q) = absurd (no_some t q)
 closed_told ds g i s t (inr q) = q
 
@@ -233,18 +233,33 @@ closed_records ds h g i s o f x e = by (if_is (same_bytes g f && is_other (recor
     latest = λ t q r. old.latest t (closed_told ds g i s t q) r;
   }
 
+-- ---- the seqids of changes
+
+opened_sizes : (ds : List Deed) → AreSound ds → (p g : List ℕ) (m : Mode) (s t : Stateid) → MayOpen ds (record_at ds p g) s → IsTold (opens p g m s ∷ ds) t → (1 ≤ t.seqid) × (t.seqid < change_limit)
+opened_sizes ds h p g m s t l (inl q) =
+    let n = opening_by ds h p g s (record_at ds p g) refl l in
+    subst (λ (z : Stateid). (1 ≤ z.seqid) × (z.seqid < change_limit)) (some_is s t q) (n.from, n.below)
+opened_sizes ds h p g m s t l (inr q) = h.sizes t q
+
+lowered_sizes : (ds : List Deed) → AreSound ds → (g : List ℕ) (i : Stateid) (m : Mode) (s : Stateid) (p : List ℕ) (y : OpenRecord) → Lowering ds g i m s p y → (t : Stateid) → IsTold (lowers g i m s ∷ ds) t → (1 ≤ t.seqid) × (t.seqid < change_limit)
+lowered_sizes ds h g i m s p y l t (inl q) =
+    let n : IsNext y s = l.rule.2 in
+    let a : 1 ≤ s.seqid = (let b = n.seqid in omega arith) in
+    subst (λ (z : Stateid). (1 ≤ z.seqid) × (z.seqid < change_limit)) (some_is s t q) (a, n.bound)
+lowered_sizes ds h g i m s p y l t (inr q) = h.sizes t q
+
 -- ---- all
 
-nothing_told : (ds : List Deed) (t : Stateid) → IsTold (nothing ∷ ds) t → IsTold ds t
+pub nothing_told : (ds : List Deed) (t : Stateid) → IsTold (nothing ∷ ds) t → IsTold ds t
 nothing_told ds t (inl q) = absurd (no_some t q)
 nothing_told ds t (inr q) = q
 
 step : (ds : List Deed) → AreSound ds → (d : Deed) → MayFollow ds d → AreSound (d ∷ ds)
-step ds h (opens p g m s) l = record { records = λ o f x e. opened_records ds h p g m s l o f x e; changes = λ t q. opened_changes ds h p g m s t q }
+step ds h (opens p g m s) l = record { records = λ o f x e. opened_records ds h p g m s l o f x e; changes = λ t q. opened_changes ds h p g m s t q; sizes = λ t q. opened_sizes ds h p g m s t l q }
 step ds h (lowers g i m s) l =
     let k = lowering_is ds g i m s l in
-    record { records = λ o f x e. lowered_records ds h g i m s k.0 k.1 k.2 o f x e; changes = λ t q. lowered_changes ds h g i m s k.0 k.1 k.2 t q }
-step ds h (closes g i s) l = record { records = λ o f x e. closed_records ds h g i s o f x e; changes = λ t q. h.changes t (closed_told ds g i s t q) }
+    record { records = λ o f x e. lowered_records ds h g i m s k.0 k.1 k.2 o f x e; changes = λ t q. lowered_changes ds h g i m s k.0 k.1 k.2 t q; sizes = λ t q. lowered_sizes ds h g i m s k.0 k.1 k.2 t q }
+step ds h (closes g i s) l = record { records = λ o f x e. closed_records ds h g i s o f x e; changes = λ t q. h.changes t (closed_told ds g i s t q); sizes = λ t q. h.sizes t (closed_told ds g i s t q) }
 step ds h nothing l = record {
   records = λ o f x e. (let old = h.records o f x e in record {
     given = kept_given nothing ds o f x.other refl old.given;
@@ -253,8 +268,9 @@ step ds h nothing l = record {
     latest = λ t q r. old.latest t (nothing_told ds t q) r;
   });
   changes = λ t q. h.changes t (nothing_told ds t q);
+  sizes = λ t q. h.sizes t (nothing_told ds t q);
 }
 
 pub sound : (ds : List Deed) → Lawful ds → AreSound ds
-sound [] l = record { records = λ o f x e. absurd (no_some x e); changes = λ s h. absurd h }
+sound [] l = record { records = λ o f x e. absurd (no_some x e); changes = λ s h. absurd h; sizes = λ s h. absurd h }
 sound (d ∷ ds) l = step ds (sound ds l.0) d l.1

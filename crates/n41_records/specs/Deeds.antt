@@ -149,10 +149,11 @@ pub record IsSound (ds : List Deed) (o f : List ℕ) (x : OpenRecord) : Type 0 w
   pub below : x.seqid < change_limit
   pub latest : (s : Stateid) → IsTold ds s → s.other ≡ x.other → s.seqid ≤ x.seqid
 
--- each record is sound, and each change is one of a record that was given
+-- each record is sound, and each change is one of a record that was given, with a seqid from 1 below 2^31
 pub record AreSound (ds : List Deed) : Type 0 where
   pub records : (o f : List ℕ) (x : OpenRecord) → record_at ds o f ≡ Some x → IsSound ds o f x
   pub changes : (s : Stateid) → IsTold ds s → given ds s.other ≡ true
+  pub sizes : (s : Stateid) → IsTold ds s → (1 ≤ s.seqid) × (s.seqid < change_limit)
 
 -- the record of an owner and a file is there, with this "other"
 pub record Stands (ds : List Deed) (o f a : List ℕ) : Type 0 where
@@ -166,3 +167,9 @@ pub record Holds (ds : List Deed) (o f a : List ℕ) (n : Mode) : Type 0 where
   pub there : record_at ds o f ≡ Some it
   pub other : it.other ≡ a
   pub covered : covers it.modes n ≡ true
+
+-- No record with this "other" is there any more, and no change of it was told with a greater seqid.
+pub record IsEnded (ds : List Deed) (a : List ℕ) (n : ℕ) : Type 0 where
+  pub was : given ds a ≡ true
+  pub none : (o f : List ℕ) (x : OpenRecord) → record_at ds o f ≡ Some x → x.other ≡ a → ⊥
+  pub latest : (s : Stateid) → IsTold ds s → s.other ≡ a → s.seqid ≤ n
