@@ -1,1 +1,3 @@
 pub mod Serve
+pub mod Entries
+pub mod Windows
