@@ -10,7 +10,8 @@ use Rattle.n41_opens.specs.Opens.{Told, open_of}
 use Rattle.std.proofs.lemmas.Bool.{cases_eq}
 use Rattle.n41_runs.specs.Records.{OpenRecord, allows}
 use Rattle.n41_records.specs.Deeds.{Deed, opens, lowers, closes, nothing, change_in, IsTold, MayFollow, Lawful, AreSound, Stands, Holds, IsEnded}
-use Rattle.n41_records.proofs.Sound.{Named, no_some, one_key, some_is, sound}
+use Rattle.n41_runs.specs.OpenRules.{IsNext}
+use Rattle.n41_records.proofs.Sound.{Lowering, lowering_is, no_some, some_is, sound}
 use Rattle.n41_records.proofs.Stays.{IsCurrent, closes_current, current_latest, holds_closed, holds_lowered, holds_opened, lowers_current, opened_holds, stands_closed, stands_lowered, stands_opened, told_once}
 use Rattle.n41_records.proofs.Ended.{ended_now, ended_stays}
 use Rattle.n41_scenes.specs.Scenes.{Ask, quiet, uses, refreshes, shrinks, handle_in, Scene, change, IsTaken, AllTaken, IsOutdated, IsUnbegun, IsBegun, IsHeard, IsGone, IsLess, IsHeld, IsBacked, Suffices, IsAsked, IsClosing, Fits, IsOwned, IsKept, at, served}
@@ -187,6 +188,7 @@ record Left (v : Scene) (s : ℕ) (d : Deed) : Type 0 where
   backed : (h : ℕ) (o : Open) → open_of v.table.handles h ≡ Some o → IsBacked (served v s d) h o
   others : (t : ℕ) (p g : List ℕ) (m : Mode) (x : Stateid) → v.under t ≡ opens p g m x → Holds (d ∷ v.done) p g x.other m
   now : (p g : List ℕ) (m : Mode) (x : Stateid) → d ≡ opens p g m x → Holds (d ∷ v.done) p g x.other m
+  same : (g : List ℕ) (i : Stateid) (m : Mode) (x : Stateid) → d ≡ lowers g i m x → x.other ≡ i.other
   ended : (g : List ℕ) (i x : Stateid) → d ≡ closes g i x → IsEnded (d ∷ v.done) i.other i.seqid
 
 shrink_lowers : (v : Scene) (s : ℕ) (g : List ℕ) (i : Stateid) (m : Mode) (x : Stateid) → (k : IsServe v s (lowers g i m x)) → IsShrink v s k.fits.0 g i (Some m)
@@ -201,36 +203,46 @@ same_ended v g i x f j y e h = let a : i ≡ j = cc in subst (λ (z : Stateid). 
 same_open : (v : Scene) (p g : List ℕ) (m : Mode) (x : Stateid) (q f : List ℕ) (n : Mode) (y : Stateid) → opens p g m x ≡ opens q f n y → Holds (opens p g m x ∷ v.done) q f y.other n
 same_open v p g m x q f n y e = subst (λ (d : Deed). Holds (d ∷ v.done) q f y.other n) (sym e) (opened_holds v.done q f n y)
 
+next_other : (ds : List Deed) (g : List ℕ) (i : Stateid) (m : Mode) (x : Stateid) → MayFollow ds (lowers g i m x) → x.other ≡ i.other
+next_other ds g i m x l = let j = lowering_is ds g i m x l in let n : IsNext j.1 x = j.2.rule.2 in n.other ∙ j.2.named.other
+
+same_lower : (g : List ℕ) (i : Stateid) (m : Mode) (x : Stateid) (f : List ℕ) (j : Stateid) (n : Mode) (y : Stateid) → lowers g i m x ≡ lowers f j n y → x.other ≡ i.other → y.other ≡ j.other
+same_lower g i m x f j n y e h = let a : i ≡ j = cc in let b : x ≡ y = cc in ap (λ (z : Stateid). z.other) (sym b) ∙ h ∙ ap (λ (z : Stateid). z.other) a
+
 left : (v : Scene) (s : ℕ) (d : Deed) → IsServe v s d → Left v s d
 left v s (opens p g m x) k = record {
   backed = λ h o e. backed_stays v s (opens p g m x) k.idle h o (record { stands = λ b. stands_opened v.done p g m x o.id.key.owner o.id.key.fh o.id.other k.may b; holds = λ b. holds_opened v.done p g m x o.id.key.owner o.id.key.fh o.id.other o.mode k.may b }) (k.kept.backed h o e);
   others = λ t q f n y e. holds_opened v.done p g m x q f y.other n k.may (k.kept.opened t q f n y e);
   now = λ q f n y e. same_open v p g m x q f n y e;
+  same = λ f j n y e. absurd (cc);
   ended = λ f i y e. absurd (cc);
 }
 left v s (lowers g i m x) k = record {
   backed = λ h o e. backed_lowers v s k.fits.0 g i m x k.idle k.may (shrink_lowers v s g i m x k) h o e;
   others = λ t q f n y e. holds_lowered v.done (sound v.done k.kept.lawful) g i m x q f y.other n k.may (λ a. absurd (no_open v s k.fits.0 g i (Some m) (shrink_lowers v s g i m x k) t q f n y e a)) (k.kept.opened t q f n y e);
   now = λ q f n y e. absurd (cc);
+  same = λ f j n y e. same_lower g i m x f j n y e (next_other v.done g i m x k.may);
   ended = λ f j y e. absurd (cc);
 }
 left v s (closes g i x) k = record {
   backed = λ h o e. backed_closes v s k.fits.0 g i x k.idle k.may (shrink_closes v s g i x k) h o e;
   others = λ t q f n y e. holds_closed v.done g i x q f y.other n (λ a. no_open v s k.fits.0 g i None (shrink_closes v s g i x k) t q f n y e a) (k.kept.opened t q f n y e);
   now = λ q f n y e. absurd (cc);
+  same = λ f j n y e. absurd (cc);
   ended = λ f j y e. same_ended v g i x f j y e (ended_now v.done (sound v.done k.kept.lawful) g i x k.may (not_zero v s k.fits.0 g i None (shrink_closes v s g i x k)));
 }
 left v s nothing k = record {
   backed = λ h o e. backed_stays v s nothing k.idle h o (record { stands = λ b. record { it = b.it; there = b.there; other = b.other }; holds = λ b. record { it = b.it; there = b.there; other = b.other; covered = b.covered } }) (k.kept.backed h o e);
   others = λ t q f n y e. (let b = k.kept.opened t q f n y e in record { it = b.it; there = b.there; other = b.other; covered = b.covered });
   now = λ q f n y e. absurd (cc);
+  same = λ f j n y e. absurd (cc);
   ended = λ f j y e. absurd (cc);
 }
 
 -- ---- all
 
 -- the change of the deed at a slot
-change_at : (v : Scene) (s : ℕ) (d : Deed) (t : ℕ) (x : Stateid) → change_in (at s d v.under t) ≡ Some x → ((s ≡ t) × (change_in d ≡ Some x)) ⊎ ((s ≡ t → ⊥) × (change_in (v.under t) ≡ Some x))
+pub change_at : (v : Scene) (s : ℕ) (d : Deed) (t : ℕ) (x : Stateid) → change_in (at s d v.under t) ≡ Some x → ((s ≡ t) × (change_in d ≡ Some x)) ⊎ ((s ≡ t → ⊥) × (change_in (v.under t) ≡ Some x))
 change_at v s d t x e = at_is s t (change_in d) (Some x) (λ z. change_in (v.under z)) (by (s == t) e) where
   by : (b : Bool) → change_in (if b then d else v.under t) ≡ Some x → (if b then change_in d else change_in (v.under t)) ≡ Some x
   by true e = e
@@ -275,6 +287,7 @@ served_kept v s d k = let l = left v s d k in record {
   opened = λ t p g m x e. open_by l t p g m x (at_is s t d (opens p g m x) v.under e);
   asked = λ t h g i m e. asked_stays v s d k h i m (k.kept.asked t h g i m e);
   closing = k.kept.closing;
+  same = λ t g i m x e. same_by l t g i m x (at_is s t d (lowers g i m x) v.under e);
   ended = λ t g i x e. end_by l t g i x (at_is s t d (closes g i x) v.under e);
   owned = λ e. served_owned v s d (k.kept.owned e);
 } where
@@ -282,14 +295,10 @@ served_kept v s d k = let l = left v s d k in record {
   open_by l t p g m x (inl e) = l.now p g m x e.1
   open_by l t p g m x (inr e) = l.others t p g m x e.1
 
+  same_by : Left v s d → (t : ℕ) (g : List ℕ) (i : Stateid) (m : Mode) (x : Stateid) → ((s ≡ t) × (d ≡ lowers g i m x)) ⊎ ((s ≡ t → ⊥) × (v.under t ≡ lowers g i m x)) → x.other ≡ i.other
+  same_by l t g i m x (inl e) = l.same g i m x e.1
+  same_by l t g i m x (inr e) = k.kept.same t g i m x e.1
+
   end_by : Left v s d → (t : ℕ) (g : List ℕ) (i x : Stateid) → ((s ≡ t) × (d ≡ closes g i x)) ⊎ ((s ≡ t → ⊥) × (v.under t ≡ closes g i x)) → IsEnded (d ∷ v.done) i.other i.seqid
   end_by l t g i x (inl e) = l.ended g i x e.1
   end_by l t g i x (inr e) = ended_stays v.done i.other i.seqid (k.kept.ended t g i x e.1) d k.may
-
--- ---- no record that a request names is lost
-
--- the record that is named stands, and its seqid is not below the one by which it is named
-pub record IsNamed (v : Scene) (g : List ℕ) (i : Stateid) : Type 0 where
-  pub owner : List ℕ
-  pub stands : Stands v.done owner g i.other
-  pub reached : i.seqid ≤ stands.it.seqid

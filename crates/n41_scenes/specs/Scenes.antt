@@ -173,6 +173,7 @@ pub record IsKept (v : Scene) : Type 0 where
   pub opened : (s : ℕ) (p g : List ℕ) (m : Mode) (x : Stateid) → v.under s ≡ opens p g m x → Holds v.done p g x.other m
   pub asked : (s h : ℕ) (g : List ℕ) (i : Stateid) (m : Option Mode) → v.asks s ≡ shrinks h g i m → IsAsked v h i m
   pub closing : (s h : ℕ) (g : List ℕ) (i : Stateid) (m : Option Mode) (o : Open) → v.asks s ≡ shrinks h g i m → open_of v.table.handles h ≡ Some o → IsClosing g i o
+  pub same : (s : ℕ) (g : List ℕ) (i : Stateid) (m : Mode) (x : Stateid) → v.under s ≡ lowers g i m x → x.other ≡ i.other
   pub ended : (s : ℕ) (g : List ℕ) (i x : Stateid) → v.under s ≡ closes g i x → IsEnded v.done i.other i.seqid
   pub owned : v.over ≡ false → IsOwned v
 
@@ -184,3 +185,19 @@ at s x f t = if s == t then x else f t
 -- the server does what the request on a slot asks, or nothing
 abbrev pub served : Scene → ℕ → Deed → Scene
 served v s d = record v { done = d ∷ v.done; under = at s d v.under }
+
+-- the reply is taken: nothing is out on the slot any more, and the table is this
+abbrev pub took : Scene → ℕ → Table → (ℕ → Bool) → Scene
+took v s t l = record v { table = t; asks = at s quiet v.asks; under = at s nothing v.under; low = l }
+
+-- a new request is out on a slot
+abbrev pub asking : Scene → ℕ → Ask → Scene
+asking v s a = record v { asks = at s a v.asks }
+
+-- the table changes by a command that begins or is answered
+abbrev pub showing : Scene → Table → Scene
+showing v t = record v { table = t }
+
+-- nothing is put or taken any more
+abbrev pub ending : Scene → Scene
+ending v = record v { over = true }
