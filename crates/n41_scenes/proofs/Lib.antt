@@ -4,3 +4,6 @@ pub mod Windows
 pub mod Take
 pub mod Attach
 pub mod Shrink
+pub mod Put
+pub mod Show
+pub mod Named
