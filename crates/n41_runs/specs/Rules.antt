@@ -1,5 +1,6 @@
 -- The rules of the server and the net: which step may follow which. A rule that is marked (own) narrows RFC 8881.
-use Rattle.std.specs.Prelude.{◌≡◌, ◌≢◌, ◌⊎◌, ℕ, suc, ◌+◌, ◌%◌, ◌^◌, ◌==◌, Bool, true, false, ◌&&◌, ◌||◌, not, List, [], ◌∷◌, Option, Some, None, Ok, Err, if◌then◌else◌, nat_le, is_some}
+use Rattle.std.specs.Prelude.{◌≡◌, ◌≢◌, ◌⊎◌, ℕ, suc, ◌+◌, ◌%◌, ◌^◌, ◌==◌, Bool, true, false, ◌&&◌, ◌||◌, not, List, [], ◌∷◌, Option, Some, None, Result, Ok, Err, if◌then◌else◌, nat_le, is_some}
+use Rattle.std.specs.List.{list_any}
 use Rattle.n41_types.specs.declared.identities.SessionId.{SessionId}
 use Rattle.n41_types.specs.declared.plans.Plan.{Plan}
 use Rattle.n41_types.specs.declared.plans.Plan.TheVariants as plan
@@ -9,6 +10,8 @@ use Rattle.n41_types.specs.declared.statuses.Status.{Status}
 use Rattle.n41_results.specs.declared.replies.Reply.{Reply}
 use Rattle.n41_results.specs.declared.replies.ReplyBody.{ReplyBody}
 use Rattle.n41_results.specs.declared.replies.ReplyBody.TheVariants.{Results}
+use Rattle.n41_results.specs.declared.results.LockRefusal.{LockRefusal}
+use Rattle.n41_results.specs.declared.results.LockRefusal.TheVariants.{Other}
 use Rattle.n41_results.specs.declared.results.Res.{Res}
 use Rattle.n41_results.specs.declared.results.Res.TheVariants as res
 use Rattle.n41_results.specs.declared.sessions.Identity.{Identity}
@@ -74,10 +77,39 @@ slot_refuses sizes w k r u s =
     || (is_misordered s && is_out_of_turn u.turn (last w u.sid u.slot))
     else is_gone s)
 
+-- an error whose status is OK, which nothing on the wire can tell: the arms of a result are told apart by their status
+abbrev pub errs_ok : {A : Type 0} → Result A Status → Bool
+errs_ok (Ok a) = false
+errs_ok (Err s) = is_ok s
+
+abbrev pub lock_errs_ok : {A : Type 0} → Result A LockRefusal → Bool
+lock_errs_ok (Err (Other s)) = is_ok s
+lock_errs_ok r = false
+
+abbrev pub is_ok_error : Res → Bool
+is_ok_error (res.Close r) = errs_ok r
+is_ok_error (res.Commit r) = errs_ok r
+is_ok_error (res.Create r) = errs_ok r
+is_ok_error (res.GetAttr r) = errs_ok r
+is_ok_error (res.GetFh r) = errs_ok r
+is_ok_error (res.Lock r) = lock_errs_ok r
+is_ok_error (res.LockTest r) = lock_errs_ok r
+is_ok_error (res.Unlock r) = errs_ok r
+is_ok_error (res.Open r) = errs_ok r
+is_ok_error (res.OpenDowngrade r) = errs_ok r
+is_ok_error (res.Read r) = errs_ok r
+is_ok_error (res.ReadDir r) = errs_ok r
+is_ok_error (res.Remove r) = errs_ok r
+is_ok_error (res.Rename r) = errs_ok r
+is_ok_error (res.Write r) = errs_ok r
+is_ok_error (res.TestStateid r) = errs_ok r
+is_ok_error x = false
+
 -- The results of a new turn. They are those of the operations of the request, in order, up to the first that is not OK; what they tell is
--- free, but for open records. SEQUENCE repeats session, turn and slot (own). RETRY_UNCACHED_REP is none of them (own), GETATTR tells type
+-- free, but for open records, and no error is OK. SEQUENCE repeats session, turn and slot (own). RETRY_UNCACHED_REP is none of them (own), GETATTR tells type
 -- and size where they are asked (own), WRITE tells no more than was sent, and that it is on stable storage (own), and GETFH is OK behind an OPEN that is (own). An operation that answers an error has changed nothing (own).
 pub record IsRun (r : Request) (q : Sequenced) (xs : List Res) : Type 0 where
+  pub sound : list_any is_ok_error xs ≡ false
   pub whole : is_half_open xs ≡ false
   pub echoes : repeats r.slot q ≡ true
   pub fits : shape_of r (ran_reply r q xs) ≡ None

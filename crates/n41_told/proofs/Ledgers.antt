@@ -7,9 +7,10 @@ use Rattle.n41_results.specs.declared.replies.Reply.{Reply}
 use Rattle.n41_journal.specs.declared.events.Event.{Event}
 use Rattle.n41_journal.specs.declared.events.Event.TheVariants.{Put, Took}
 use Rattle.n41_model.specs.declared.words.Verdict.{Verdict}
-use Rattle.n41_calls.specs.Calls.{Ledger, call, owner, ledger, is_new, is_caller, put_call, took_call, command, owner_at, slot_in}
+use Rattle.n41_calls.specs.Calls.{Call, Ledger, call, owner, files, ledger, is_new, is_caller, put_call, took_call, hour, files_told, command, owner_at, slot_in}
+use Rattle.n41_calls.specs.Files.{Files, files_after, files_or}
 use Rattle.n41_model.specs.Replies.{verdict_of}
-use Rattle.n41_model.specs.Requests.{request, outs, out, knows, is_on, slot_number, moment, retried, verdict, verdict_in, verdict_on}
+use Rattle.n41_model.specs.Requests.{request, outs, out, knows, is_on, slot_number, retried, verdict, verdict_in, verdict_on}
 use Rattle.n41_model.specs.Sessions.{plan_of, plan_in}
 use Rattle.n41_told.proofs.Chosen.{new_owner}
 use Rattle.n41_moves.proofs.Moves.{PutsAgain, PutsNew, TakesOn, TakesBare, new_out, bare_on_none}
@@ -34,6 +35,7 @@ pub record NewLedger (n : ℕ) (js es : List Event) (r : Request) (p : SlotUse) 
   pub commands : (m : ℕ) → command_on n es m ≡ (if p.slot == m then last_of js (new_owner n js r) else command_on n js m)
   pub helds : (d : ℕ) → held n es d ≡ (if is_caller (new_owner n js r) d then p.slot else held n js d)
   pub outs : (m : ℕ) → out es m ≡ (if p.slot == m then Some r else out js m)
+  pub files : files n es ≡ files n js
 
 -- and where it is as it was
 pub record SameLedger (n : ℕ) (js es : List Event) : Type 0 where
@@ -52,7 +54,7 @@ again_is : (js : List Event) (r : Request) (p : SlotUse) → PutsAgain js r p �
 again_is js r p a = ap (λ (o : Option ℕ). is_new js r o) (number_is r p a.placed) ∙ ap (λ (b : Bool). not b) a.known
 
 abbrev new_ledger : ℕ → List Event → Request → Ledger
-new_ledger n js r = record { calls = λ c. if is_caller (new_owner n js r) c then put_call ((ledger n js).calls c) else (ledger n js).calls c; owners = λ m. if is_on r m then new_owner n js r else (ledger n js).owners m }
+new_ledger n js r = record { calls = λ c. if is_caller (new_owner n js r) c then put_call ((ledger n js).calls c) else (ledger n js).calls c; owners = λ m. if is_on r m then new_owner n js r else (ledger n js).owners m; files = (ledger n js).files }
 
 ledger_put : (n : ℕ) (js : List Event) (c k : ℕ) (r : Request) (b : Bool) → is_new js r (slot_number r.slot) ≡ b → ledger n (Put c k r ∷ js) ≡ (if b then new_ledger n js r else ledger n js)
 ledger_put n js c k r b e = ap (λ (z : Bool). if z then new_ledger n js r else ledger n js) e
@@ -77,6 +79,7 @@ new_moves n js c k r p a = record {
   commands = λ m. command_at n js c k m r p a (p.slot == m) refl;
   helds = λ d. held_at d;
   outs = λ m. new_out js c k m r p a;
+  files = ap (λ (l : Ledger). l.files) (ledger_put n js c k r true (new_is js r p a));
 } where
   held_at : (d : ℕ) → held n (Put c k r ∷ js) d ≡ (if is_caller (new_owner n js r) d then p.slot else held n js d)
   held_at d =
@@ -108,17 +111,53 @@ bare_moves n js c k r e o = record {
   is_one : is_new js r (slot_number r.slot) ≡ true
   is_one = ap (λ (o : Option SlotUse). is_new js r (slot_number o)) e
 
+-- a Put leaves the handles
+pub put_files : (n : ℕ) (js : List Event) (c k : ℕ) (r : Request) → files n (Put c k r ∷ js) ≡ files n js
+put_files n js c k r = by (is_new js r (slot_number r.slot)) refl where
+  by : (b : Bool) → is_new js r (slot_number r.slot) ≡ b → files n (Put c k r ∷ js) ≡ files n js
+  by true e = ap (λ (l : Ledger). l.files) (ledger_put n js c k r true e)
+  by false e = ap (λ (l : Ledger). l.files) (ledger_put n js c k r false e)
+
 -- ---- replies
 
-pub took_call_on : (n : ℕ) (js : List Event) (c k d : ℕ) (y : Reply) (r : Request) (p : SlotUse) → TakesOn js y r p → call n (Took c k y ∷ js) d ≡ (if is_caller (owner n js p.slot) d then took_call (moment js) (command js d) r.plan (Some (verdict_of r (retried js p.slot) y)) y (call n js d) else call n js d)
+-- a call after a reply to a request on a slot
+abbrev pub took_one : List Event → Files → Reply → Request → SlotUse → ℕ → Call → Call
+took_one js f y r p d k = took_call (hour js f k) (command js d) r.plan (Some (verdict_of r (retried js p.slot) y)) y k
+
+-- and the handles: None where no server that keeps the rules answers so
+abbrev pub told_one : List Event → Ledger → Reply → Request → SlotUse → Option ℕ → Option Files
+told_one js l y r p None = Some l.files
+told_one js l y r p (Some c) =
+    if (l.calls c).busy then files_after (command js c) (l.calls c).way r.plan (Some (verdict_of r (retried js p.slot) y)) y l.files else Some l.files
+
+took_owner : (n : ℕ) (js : List Event) (y : Reply) (r : Request) (p : SlotUse) → TakesOn js y r p → owner_at (ledger n js).owners (slot_in (request js y.xid)) ≡ owner n js p.slot
+took_owner n js y r p a = ap (λ (q : Option Request). owner_at (ledger n js).owners (slot_in q)) a.found ∙ ap (λ (o : Option SlotUse). owner_at (ledger n js).owners (slot_number o)) a.placed
+
+took_plan : (js : List Event) (y : Reply) (r : Request) (p : SlotUse) → TakesOn js y r p → plan_of js y ≡ r.plan
+took_plan js y r p a = ap (λ (q : Option Request). plan_in q) a.found
+
+took_verdict : (js : List Event) (y : Reply) (r : Request) (p : SlotUse) → TakesOn js y r p → verdict js y ≡ Some (verdict_of r (retried js p.slot) y)
+took_verdict js y r p a = ap (λ (q : Option Request). verdict_in js y q) a.found ∙ ap (λ (o : Option SlotUse). verdict_on js y r o) a.placed
+
+pub took_call_on : (n : ℕ) (js : List Event) (c k d : ℕ) (y : Reply) (r : Request) (p : SlotUse) → TakesOn js y r p → call n (Took c k y ∷ js) d ≡ (if is_caller (owner n js p.slot) d then took_one js (files n js) y r p d (call n js d) else call n js d)
 took_call_on n js c k d y r p a =
-    let e : owner_at (ledger n js).owners (slot_in (request js y.xid)) ≡ owner n js p.slot = ap (λ (q : Option Request). owner_at (ledger n js).owners (slot_in q)) a.found ∙ ap (λ (o : Option SlotUse). owner_at (ledger n js).owners (slot_number o)) a.placed in
-    let f : plan_of js y ≡ r.plan = ap (λ (q : Option Request). plan_in q) a.found in
-    let g : verdict js y ≡ Some (verdict_of r (retried js p.slot) y) = ap (λ (q : Option Request). verdict_in js y q) a.found ∙ ap (λ (o : Option SlotUse). verdict_on js y r o) a.placed in
-    let h : call n (Took c k y ∷ js) d ≡ (if is_caller (owner_at (ledger n js).owners (slot_in (request js y.xid))) d then took_call (moment js) (command js d) (plan_of js y) (verdict js y) y (call n js d) else call n js d) = refl in
-    h ∙ (ap (λ (o : Option ℕ). if is_caller o d then took_call (moment js) (command js d) (plan_of js y) (verdict js y) y (call n js d) else call n js d) e ∙ (ap (λ q. if is_caller (owner n js p.slot) d then took_call (moment js) (command js d) q (verdict js y) y (call n js d) else call n js d) f ∙ ap (λ (x : Option Verdict). if is_caller (owner n js p.slot) d then took_call (moment js) (command js d) r.plan x y (call n js d) else call n js d) g))
+    let h : call n (Took c k y ∷ js) d ≡ (if is_caller (owner_at (ledger n js).owners (slot_in (request js y.xid))) d then took_call (hour js (files n js) (call n js d)) (command js d) (plan_of js y) (verdict js y) y (call n js d) else call n js d) = refl in
+    h ∙ (ap (λ (o : Option ℕ). if is_caller o d then took_call (hour js (files n js) (call n js d)) (command js d) (plan_of js y) (verdict js y) y (call n js d) else call n js d) (took_owner n js y r p a) ∙ (ap (λ q. if is_caller (owner n js p.slot) d then took_call (hour js (files n js) (call n js d)) (command js d) q (verdict js y) y (call n js d) else call n js d) (took_plan js y r p a) ∙ ap (λ (x : Option Verdict). if is_caller (owner n js p.slot) d then took_call (hour js (files n js) (call n js d)) (command js d) r.plan x y (call n js d) else call n js d) (took_verdict js y r p a)))
+
+told_at : (js : List Event) (l : Ledger) (y : Reply) (r : Request) (p : SlotUse) (o : Option ℕ) → TakesOn js y r p → files_told js y o l ≡ told_one js l y r p o
+told_at js l y r p None a = refl
+told_at js l y r p (Some c) a =
+    ap (λ q. if (l.calls c).busy then files_after (command js c) (l.calls c).way q (verdict js y) y l.files else Some l.files) (took_plan js y r p a) ∙ ap (λ (x : Option Verdict). if (l.calls c).busy then files_after (command js c) (l.calls c).way r.plan x y l.files else Some l.files) (took_verdict js y r p a)
+
+pub told_on : (n : ℕ) (js : List Event) (y : Reply) (r : Request) (p : SlotUse) → TakesOn js y r p → files_told js y (owner_at (ledger n js).owners (slot_in (request js y.xid))) (ledger n js) ≡ told_one js (ledger n js) y r p (owner n js p.slot)
+told_on n js y r p a = ap (λ (o : Option ℕ). files_told js y o (ledger n js)) (took_owner n js y r p a) ∙ told_at js (ledger n js) y r p (owner n js p.slot) a
+
+bare_owner : (n : ℕ) (js : List Event) (y : Reply) (r : Request) → TakesBare js y r → owner_at (ledger n js).owners (slot_in (request js y.xid)) ≡ None
+bare_owner n js y r a = ap (λ (q : Option Request). owner_at (ledger n js).owners (slot_in q)) a.found ∙ ap (λ (o : Option SlotUse). owner_at (ledger n js).owners (slot_number o)) a.no_slot
 
 pub took_call_bare : (n : ℕ) (js : List Event) (c k d : ℕ) (y : Reply) (r : Request) → TakesBare js y r → call n (Took c k y ∷ js) d ≡ call n js d
 took_call_bare n js c k d y r a =
-    let e : owner_at (ledger n js).owners (slot_in (request js y.xid)) ≡ None = ap (λ (q : Option Request). owner_at (ledger n js).owners (slot_in q)) a.found ∙ ap (λ (o : Option SlotUse). owner_at (ledger n js).owners (slot_number o)) a.no_slot in
-    ap (λ (o : Option ℕ). if is_caller o d then took_call (moment js) (command js d) (plan_of js y) (verdict js y) y (call n js d) else call n js d) e
+    ap (λ (o : Option ℕ). if is_caller o d then took_call (hour js (files n js) (call n js d)) (command js d) (plan_of js y) (verdict js y) y (call n js d) else call n js d) (bare_owner n js y r a)
+
+pub took_files_bare : (n : ℕ) (js : List Event) (c k : ℕ) (y : Reply) (r : Request) → TakesBare js y r → files n (Took c k y ∷ js) ≡ files n js
+took_files_bare n js c k y r a = ap (λ (o : Option ℕ). files_or (files n js) (files_told js y o (ledger n js))) (bare_owner n js y r a)

@@ -36,13 +36,13 @@ use Rattle.n41_model.specs.declared.words.Sent.{Sent}
 use Rattle.n41_model.specs.declared.words.Sent.TheVariants.{Never, Waits, Delayed, Unbound}
 use Rattle.n41_model.specs.Requests.{doubt, sent, is_waiting}
 use Rattle.n41_moves.proofs.Suits.{change_class}
-use Rattle.n41_told.proofs.Telling.{told}
+use Rattle.n41_told.proofs.Handles.{Handled}
+use Rattle.n41_told.proofs.Telling.{told, handled}
 use Rattle.n41_runs.specs.Good.{IsUnknown}
 
--- the answers that are given in runs without opens
+-- the answers that are given: no open record is ever lost yet
 abbrev pub is_possible : Answer → Bool
 is_possible (says.StateLost l) = false
-is_possible says.NotOpen = false
 is_possible a = true
 
 pub record Settled (n : ℕ) (js : List Event) : Type 0 where
@@ -186,8 +186,8 @@ put_settled u js c k r z t s o = by o.form where
 
 -- ---- an answer
 
-answered_settled : (u : Setup) (js : List Event) (c m : ℕ) (x : Answer) → Told u.callers js → Settled u.callers js → MayAnswer u js c m x → Settled u.callers (Answered c m x ∷ js)
-answered_settled u js c m x t s h = record {
+answered_settled : (u : Setup) (js : List Event) (c m : ℕ) (x : Answer) → Told u.callers js → Handled u.callers js → Settled u.callers js → MayAnswer u js c m x → Settled u.callers (Answered c m x ∷ js)
+answered_settled u js c m x t hd s h = record {
   below = λ d k e. below_at d k ((c == d) && (m == k)) refl e;
   idle = λ d k e f. idle_at d k ((c == d) && (m == k)) refl e f;
   closed = λ y d k a e f g. closed_at y d k a ((c == d) && (m == k)) refl e f g;
@@ -230,7 +230,7 @@ answered_settled u js c m x t s h = record {
     by true j =
         let q = is_x d k a e f in
         let z : is_given x ≡ true = ap (λ (v : Answer). is_given v) q ∙ g in
-        absurd (true≢false (sym (here_busy y d k e i j) ∙ given_idle u js c x t asked_some (given_is u.callers js c x h.cause z)))
+        absurd (true≢false (sym (here_busy y d k e i j) ∙ given_idle u js c x t hd asked_some (given_is u.callers js c x h.cause z)))
     by false j = j
   closed_at y d k a false e f g i = s.closed y d k a (rw e at f) g i
 
@@ -252,7 +252,6 @@ answered_settled u js c m x t s h = record {
 
   cause_possible : (a : Answer) → HasCause u.callers js c a → is_possible a ≡ true
   cause_possible (says.StateLost l) v = absurd v
-  cause_possible says.NotOpen v = absurd v
   cause_possible a v = refl
 
   possible_at : (d k : ℕ) (a : Answer) (b : Bool) → ((c == d) && (m == k)) ≡ b → (if (c == d) && (m == k) then Some x else answer_to js d k) ≡ Some a → is_possible a ≡ true
@@ -338,18 +337,18 @@ takes_few : (js : List Event) (y : Reply) (r : Request) → Said js → Waiting 
 takes_few js y r i w (inl a) = w.few a.waits
 takes_few js y r i w (inr (p, a)) = i.waits_few p.slot a.waits
 
-step_settled : (u : Setup) (js : List Event) (e : Event) → May u js e → Seats js → Known js → Said js → Waiting js → Told u.callers js → Settled u.callers js → Settled u.callers (e ∷ js)
-step_settled u js (Began c m k x) h z v i w t s = quiet_settled u.callers js (Began c m k x ∷ js) s (began_quiet u js c m k x h)
-step_settled u js (Put c p r) h z v i w t s = put_settled u js c p r z t s (put_of u js h.0 r h.1.is_due)
-step_settled u js (Took c p y) h z v i w t s = let a = takes_is js c p y h.0 z v h.1 in quiet_settled u.callers js (Took c p y ∷ js) s (took_quiet u js c p y h.0 z a (takes_few js y h.0 i w a))
-step_settled u js (CbTook c p x) h z v i w t s = absurd h
-step_settled u js (CbPut c p x) h z v i w t s = absurd h
-step_settled u js (Dialed c) h z v i w t s = quiet_settled u.callers js (Dialed c ∷ js) s (same_quiet u.callers js (Dialed c ∷ js) (λ _ _. refl) (λ _. refl) (λ _. refl) (λ _. refl) (λ _ _ e. e) (λ e. (e, λ _. (refl, refl))))
-step_settled u js DialFailed h z v i w t s = quiet_settled u.callers js (DialFailed ∷ js) s (same_quiet u.callers js (DialFailed ∷ js) (λ _ _. refl) (λ _. refl) (λ _. refl) (λ _. refl) (λ _ _ e. e) (λ e. (more_rounds (heard js) (rounds js) (heard_zero js) e, λ _. (refl, refl))))
-step_settled u js (Broke c x) h z v i w t s = quiet_settled u.callers js (Broke c x ∷ js) s (broke_quiet u js c x i)
-step_settled u js (Ticked m) h z v i w t s = quiet_settled u.callers js (Ticked m ∷ js) s (same_quiet u.callers js (Ticked m ∷ js) (λ _ _. refl) (λ _. refl) (λ _. refl) (λ _. refl) (λ _ _ e. e) (λ e. (e, λ _. (refl, refl))))
-step_settled u js (Answered c m a) h z v i w t s = answered_settled u js c m a t s h
-step_settled u js Quit h z v i w t s = quiet_settled u.callers js (Quit ∷ js) s (same_quiet u.callers js (Quit ∷ js) (λ _ _. refl) (λ _. refl) (λ _. refl) (λ _. refl) (λ _ _ e. e) (λ e. (e, λ _. (refl, refl))))
+step_settled : (u : Setup) (js : List Event) (e : Event) → May u js e → Seats js → Known js → Said js → Waiting js → Told u.callers js → Handled u.callers js → Settled u.callers js → Settled u.callers (e ∷ js)
+step_settled u js (Began c m k x) h z v i w t hd s = quiet_settled u.callers js (Began c m k x ∷ js) s (began_quiet u js c m k x h)
+step_settled u js (Put c p r) h z v i w t hd s = put_settled u js c p r z t s (put_of u js h.0 r h.1.is_due)
+step_settled u js (Took c p y) h z v i w t hd s = let a = takes_is js c p y h.0 z v h.1 in quiet_settled u.callers js (Took c p y ∷ js) s (took_quiet u js c p y h.0 z a (takes_few js y h.0 i w a))
+step_settled u js (CbTook c p x) h z v i w t hd s = absurd h
+step_settled u js (CbPut c p x) h z v i w t hd s = absurd h
+step_settled u js (Dialed c) h z v i w t hd s = quiet_settled u.callers js (Dialed c ∷ js) s (same_quiet u.callers js (Dialed c ∷ js) (λ _ _. refl) (λ _. refl) (λ _. refl) (λ _. refl) (λ _ _ e. e) (λ e. (e, λ _. (refl, refl))))
+step_settled u js DialFailed h z v i w t hd s = quiet_settled u.callers js (DialFailed ∷ js) s (same_quiet u.callers js (DialFailed ∷ js) (λ _ _. refl) (λ _. refl) (λ _. refl) (λ _. refl) (λ _ _ e. e) (λ e. (more_rounds (heard js) (rounds js) (heard_zero js) e, λ _. (refl, refl))))
+step_settled u js (Broke c x) h z v i w t hd s = quiet_settled u.callers js (Broke c x ∷ js) s (broke_quiet u js c x i)
+step_settled u js (Ticked m) h z v i w t hd s = quiet_settled u.callers js (Ticked m ∷ js) s (same_quiet u.callers js (Ticked m ∷ js) (λ _ _. refl) (λ _. refl) (λ _. refl) (λ _. refl) (λ _ _ e. e) (λ e. (e, λ _. (refl, refl))))
+step_settled u js (Answered c m a) h z v i w t hd s = answered_settled u js c m a t hd s h
+step_settled u js Quit h z v i w t hd s = quiet_settled u.callers js (Quit ∷ js) s (same_quiet u.callers js (Quit ∷ js) (λ _ _. refl) (λ _. refl) (λ _. refl) (λ _. refl) (λ _ _ e. e) (λ e. (e, λ _. (refl, refl))))
 
 none_settled : (n : ℕ) → Settled n []
 none_settled n = record {
@@ -363,4 +362,4 @@ none_settled n = record {
 
 pub settled : (u : Setup) (js : List Event) → Kept u js → Settled u.callers js
 settled u [] k = none_settled u.callers
-settled u (e ∷ js) k = step_settled u js e k.1 (seats u js k.0) (known u js k.0) (said u js k.0) (waiting u js k.0) (told u js k.0) (settled u js k.0)
+settled u (e ∷ js) k = step_settled u js e k.1 (seats u js k.0) (known u js k.0) (said u js k.0) (waiting u js k.0) (told u js k.0) (handled u js k.0) (settled u js k.0)

@@ -10,11 +10,10 @@ use Rattle.n41_journal.specs.declared.events.Event.{Event}
 use Rattle.n41_journal.specs.declared.events.Event.TheVariants.{Put}
 use Rattle.n41_model.specs.declared.words.Phase.{Phase}
 use Rattle.n41_model.specs.declared.words.Setup.{Setup}
-use Rattle.n41_calls.specs.Answers.{round_limit}
-use Rattle.n41_calls.specs.Calls.{Call, call, owner, command, number, put_call, is_caller, is_plan, in_running, chosen, ledger}
-use Rattle.n41_calls.specs.Due.{is_dead}
+use Rattle.n41_calls.specs.Answers.{round_limit, breach_at}
+use Rattle.n41_calls.specs.Calls.{Call, call, owner, files, command, number, put_call, is_caller, in_running, chosen, ledger}
+use Rattle.n41_calls.specs.Walks.{is_plan}
 use Rattle.n41_model.specs.Requests.{bare, out, rounds}
-use Rattle.n41_model.specs.Sessions.{phase}
 use Rattle.n41_calls.proofs.Slots.{Seats}
 use Rattle.n41_told.proofs.Chosen.{IsReady, new_owner, owner_ready, wants_chosen}
 use Rattle.n41_told.proofs.Ledgers.{NewLedger, SameLedger, held, new_moves}
@@ -86,8 +85,8 @@ named_owner js o c m e =
 
 -- ---- the run goes on
 
-pub record GoesOn (js : List Event) : Type 0 where
-  pub alive : is_dead (phase js) ≡ false
+pub record GoesOn (n : ℕ) (js : List Event) : Type 0 where
+  pub clean : breach_at n js ≡ None
   pub few : rounds js < round_limit
 
 -- ---- the facts
@@ -97,7 +96,7 @@ pub record Told (n : ℕ) (js : List Event) : Type 0 where
   pub owner_is : (s : ℕ) → caller_of (command_on n js s) ≡ owner n js s
   pub busy_held : (c : ℕ) → (call n js c).busy ≡ true → command js c ≢ None → (out js (held n js c) ≢ None) × (is_named (command_on n js (held n js c)) c (number js c) ≡ true)
   pub out_busy : (s c : ℕ) → out js s ≢ None → is_named (command_on n js s) c (number js c) ≡ true → command js c ≢ None → ((call n js c).busy ≡ true) × (held n js c ≡ s)
-  pub current : GoesOn js → (s : ℕ) (a : CommandName) → out js s ≢ None → command_on n js s ≡ Some a → (command js a.caller ≢ None) × (a.number ≡ number js a.caller)
+  pub current : GoesOn n js → (s : ℕ) (a : CommandName) → out js s ≢ None → command_on n js s ≡ Some a → (command js a.caller ≢ None) × (a.number ≡ number js a.caller)
   pub same_owner : (s c : ℕ) → (call n js c).busy ≡ true → command js c ≢ None → out js s ≢ None → owner n js s ≡ Some c → is_named (command_on n js s) c (number js c) ≡ true
   pub earned_idle : (c : ℕ) → (call n js c).earned ≢ None → (call n js c).busy ≡ false
   pub suits : (s : ℕ) (r : Request) (a : CommandName) (k : Command) → out js s ≡ Some r → command_on n js s ≡ Some a → command js a.caller ≡ Some k → a.number ≡ number js a.caller → Suits k r.plan
@@ -114,7 +113,7 @@ pub record SameFacts (n : ℕ) (js es : List Event) : Type 0 where
   pub commands : (c : ℕ) → command es c ≡ command js c
   pub numbers : (c : ℕ) → number es c ≡ number js c
   pub askeds : (c m : ℕ) → asked es c m ≡ asked js c m
-  pub goes : GoesOn es → GoesOn js
+  pub goes : GoesOn n es → GoesOn n js
   pub bares : (r : Request) → bare es ≡ Some r → is_bare_class (class_of r.plan) ≡ true
 
 pub same_told : (n : ℕ) (js es : List Event) → Told n js → SameFacts n js es → Told n es
@@ -179,10 +178,10 @@ new_told u js c k r z t g a be = record {
   l : NewLedger u.callers js (Put c k r ∷ js) r a.place
   l = new_moves u.callers js c k r a.place b
 
-  go : GoesOn js
-  go = record { alive = g.alive; few = g.few }
+  go : GoesOn u.callers js
+  go = record { clean = g.clean; few = g.few }
 
-  ready : (d : ℕ) → new_owner u.callers js r ≡ Some d → IsReady js (call u.callers js d) r.plan d
+  ready : (d : ℕ) → new_owner u.callers js r ≡ Some d → IsReady js (files u.callers js) (call u.callers js d) r.plan d
   ready d e = owner_ready u.callers js r d e
 
   asks_some : (d : ℕ) → new_owner u.callers js r ≡ Some d → command js d ≢ None
@@ -290,7 +289,7 @@ new_told u js c k r z t g a be = record {
 
   for_caller : (is_own r.plan ≡ true) ⊎ ((d : ℕ) × ForCaller u js r d) → change_of r.plan ≢ None → new_owner u.callers js r ≢ None
   for_caller (inl e) f = absurd (f (own_change r.plan e))
-  for_caller (inr (d, w)) f = λ h. wants_chosen js (λ x. call u.callers js x) r.plan u.callers d w.caller (record { ready = w.ready; plan = subst (λ (x : Option Plan). is_plan x r.plan ≡ true) (sym w.plan) (plan_itself r.plan) }) (sym (ap (λ (x : Phase). in_running x (chosen js (ledger u.callers js).calls r.plan u.callers)) w.running) ∙ h)
+  for_caller (inr (d, w)) f = λ h. wants_chosen js (ledger u.callers js) r u.callers d w.caller (record { ready = w.ready; plan = subst (λ (x : Option Plan). is_plan x r.plan ≡ true) (sym w.plan) (plan_itself r.plan) }) (sym (ap (λ (x : Phase). in_running x (chosen js (ledger u.callers js) r u.callers)) w.running) ∙ h)
 
   owned_at : (s : ℕ) (q : Request) (x : Bool) → (a.place.slot == s) ≡ x → out (Put c k r ∷ js) s ≡ Some q → change_of q.plan ≢ None → command_on u.callers (Put c k r ∷ js) s ≢ None
   owned_at s q true e f h =
