@@ -1,2 +1,3 @@
 pub mod Shown
 pub mod Acts
+pub mod Quiet
