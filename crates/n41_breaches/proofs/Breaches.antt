@@ -31,6 +31,9 @@ use Rattle.n41_breaches.proofs.Parted.{Parted, parted, put_end}
 use Rattle.n41_breaches.proofs.Serving.{BareIs, sid_some, refuses_clients, names_clients, makes_clients, binds_clients, ends_clients}
 use Rattle.n41_breaches.proofs.Standing.{does_states, takes_states, runs_states, repeats_states, refuses_states, names_states, makes_states, binds_states, ends_states, none_states}
 use Rattle.n41_breaches.specs.Laws.{NoBreach}
+use Rattle.n41_runs.specs.Good.{RunsTellTrue}
+use Rattle.n41_runs.specs.OpenRules.{tells_loss}
+use Rattle.n41_model.specs.Sessions.{plan_of, plan_in}
 use Rattle.n41_runs.specs.Rules.{IsNoReply, Sizes, LegalBy, MayBeTaken}
 use Rattle.n41_runs.specs.Server.{was_made, alive}
 use Rattle.n41_runs.specs.declared.steps.Step.{Step}
@@ -83,49 +86,54 @@ fine_bare w k c y r l a x e = by (verdict_bare (client w) y r x) where
   by : bare_verdict (client w) y ≡ Some (bare_verdict_of r.plan y) → breaks (verdict (client w) y) (bare_verdict (client w) y) ≡ false
   by f = ap (λ (o : Option Verdict). breaks o (bare_verdict (client w) y)) none ∙ (ap (λ (o : Option BareVerdict). breaks None o) f ∙ (taken_says w k c y r l a x e).fine)
 
-fine_slot : (u : Setup) (sizes : Sizes) (w : List Step) (k c : ℕ) (y : Reply) (r : Request) (p : SlotUse) → Served sizes w → alive w p.sid ≡ true → MayBeTaken w k c y → TakesOn (client w) y r p → last_put (client w) p.slot ≡ k → breaks (verdict (client w) y) (bare_verdict (client w) y) ≡ false
-fine_slot u sizes w k c y r p s l a x e = ap (λ (o : Option Verdict). breaks o (bare_verdict (client w) y)) found ∙ not_so (is_breach (verdict_of r (retried (client w) p.slot) y)) (λ f. sym (says.breach f) ∙ l) where
+fine_slot : (u : Setup) (sizes : Sizes) (w : List Step) (k c : ℕ) (y : Reply) (r : Request) (p : SlotUse) → Served sizes w → alive w p.sid ≡ true → tells_loss (plan_of (client w) y) y.body ≡ false → MayBeTaken w k c y → TakesOn (client w) y r p → last_put (client w) p.slot ≡ k → breaks (verdict (client w) y) (bare_verdict (client w) y) ≡ false
+fine_slot u sizes w k c y r p s l h a x e = ap (λ (o : Option Verdict). breaks o (bare_verdict (client w) y)) found ∙ not_so (is_breach (verdict_of r (retried (client w) p.slot) y)) (λ f. sym (says.breach f kept) ∙ l) where
   found : verdict (client w) y ≡ Some (verdict_of r (retried (client w) p.slot) y)
   found = ap (λ (q : Option Request). verdict_in (client w) y q) x.found ∙ ap (λ (o : Option SlotUse). verdict_on (client w) y r o) x.placed
 
   says : SaysOn sizes w r p y
   says = s.tells r p y (record { placed = x.placed; is_out = x.is_out }) x.waits (ap (λ (j : ℕ). fate w j) e ∙ a.made)
 
-fine : (u : Setup) (sizes : Sizes) (w : List Step) (k c : ℕ) (y : Reply) (r : Request) → Single u (client w) → Lives u w → Parted u (client w) → Served sizes w → States w × Clients w → MayBeTaken w k c y → TakenIs (client w) k y r → breaks (verdict (client w) y) (bare_verdict (client w) y) ≡ false
-fine u sizes w k c y r i l t s n a (inl (x, e, f)) = fine_bare w k c y r n.1 a x f
-fine u sizes w k c y r i l t s n a (inr (p, x, e, f)) = fine_slot u sizes w k c y r p s (awaited_alive u w r p y i l t n.0 x) a x f
+  kept : tells_loss r.plan y.body ≡ false
+  kept = sym (ap (λ (q : Option Request). tells_loss (plan_in q) y.body) x.found) ∙ h
+
+fine : (u : Setup) (sizes : Sizes) (w : List Step) (k c : ℕ) (y : Reply) (r : Request) → Single u (client w) → Lives u w → Parted u (client w) → Served sizes w → States w × Clients w → tells_loss (plan_of (client w) y) y.body ≡ false → MayBeTaken w k c y → TakenIs (client w) k y r → breaks (verdict (client w) y) (bare_verdict (client w) y) ≡ false
+fine u sizes w k c y r i l t s n h a (inl (x, e, f)) = fine_bare w k c y r n.1 a x f
+fine u sizes w k c y r i l t s n h a (inr (p, x, e, f)) = fine_slot u sizes w k c y r p s (awaited_alive u w r p y i l t n.0 x) h a x f
 
 -- ---- all steps
 
-does_none : (w : List Step) (e : Event) → IsNoReply e → breach_at (client w) ≡ None → breach_at (e ∷ client w) ≡ None
-does_none w (Took c p y) l f = absurd l
-does_none w (CbTook c p y) l f = absurd l
-does_none w (CbPut c p y) l f = f
-does_none w (Began c n k m) l f = f
-does_none w (Put c p r) l f = f
-does_none w (Dialed c) l f = f
-does_none w DialFailed l f = f
-does_none w (Broke c k) l f = f
-does_none w (Ticked m) l f = f
-does_none w (Answered c n a) l f = f
-does_none w Quit l f = f
+does_none : (n : ℕ) (w : List Step) (e : Event) → IsNoReply e → breach_at n (client w) ≡ None → breach_at n (e ∷ client w) ≡ None
+does_none n w (Took c p y) l f = absurd l
+does_none n w (CbTook c p y) l f = absurd l
+does_none n w (CbPut c p y) l f = f
+does_none n w (Began c m k t) l f = f
+does_none n w (Put c p r) l f = f
+does_none n w (Dialed c) l f = f
+does_none n w DialFailed l f = f
+does_none n w (Broke c k) l f = f
+does_none n w (Ticked m) l f = f
+does_none n w (Answered c m a) l f = f
+does_none n w Quit l f = f
 
-none_yet : (u : Setup) (sizes : Sizes) (w : List Step) → LegalBy sizes w → Kept u (client w) → breach_at (client w) ≡ None
-none_yet u sizes [] l k = refl
-none_yet u sizes (Does e ∷ w) l k = does_none w e l.1 (none_yet u sizes w l.0 k.0)
-none_yet u sizes (Takes j c p y ∷ w) l k =
+none_yet : RunsTellTrue → (u : Setup) (sizes : Sizes) (w : List Step) → LegalBy sizes w → Kept u (client w) → breach_at u.callers (client w) ≡ None
+none_yet h u sizes [] l k = refl
+none_yet h u sizes (Does e ∷ w) l k = does_none u.callers w e l.1 (none_yet h u sizes w l.0 k.0)
+none_yet h u sizes (Takes j c p y ∷ w) l k =
     let t = seats u (client w) k.0 in
     let v = known u (client w) k.0 in
     let x = taken_is w j c y k.1.0 v (net u sizes w l.0 k.0) l.1 (takes_is (client w) c p y k.1.0 t v k.1.1) in
-    let f = fine u sizes w j c y k.1.0 (single u (client w) k.0) (lives u sizes w l.0 k.0) (parted u (client w) k.0) (served u sizes w l.0 k.0) (numbers u sizes w l.0 k.0) l.1 x in
-    rw (none_yet u sizes w l.0 k.0, f) refl
-none_yet u sizes (Runs j r q xs ∷ w) l k = none_yet u sizes w l.0 k
-none_yet u sizes (Repeats j r y ∷ w) l k = none_yet u sizes w l.0 k
-none_yet u sizes (Refuses j r s ∷ w) l k = none_yet u sizes w l.0 k
-none_yet u sizes (Names j r i ∷ w) l k = none_yet u sizes w l.0 k
-none_yet u sizes (Makes j r m ∷ w) l k = none_yet u sizes w l.0 k
-none_yet u sizes (Binds j r b ∷ w) l k = none_yet u sizes w l.0 k
-none_yet u sizes (Ends j r ∷ w) l k = none_yet u sizes w l.0 k
+    let d = h u w j c p y (sizes, l) k in
+    let f = fine u sizes w j c y k.1.0 (single u (client w) k.0) (lives u sizes w l.0 k.0) (parted u (client w) k.0) (served u sizes w l.0 k.0) (numbers u sizes w l.0 k.0) d.has l.1 x in
+    let g = d.leads in
+    rw (none_yet h u sizes w l.0 k.0, f, g) refl
+none_yet h u sizes (Runs j r q xs ∷ w) l k = none_yet h u sizes w l.0 k
+none_yet h u sizes (Repeats j r y ∷ w) l k = none_yet h u sizes w l.0 k
+none_yet h u sizes (Refuses j r s ∷ w) l k = none_yet h u sizes w l.0 k
+none_yet h u sizes (Names j r i ∷ w) l k = none_yet h u sizes w l.0 k
+none_yet h u sizes (Makes j r m ∷ w) l k = none_yet h u sizes w l.0 k
+none_yet h u sizes (Binds j r b ∷ w) l k = none_yet h u sizes w l.0 k
+none_yet h u sizes (Ends j r ∷ w) l k = none_yet h u sizes w l.0 k
 
-pub no_breach : NoBreach
-no_breach = λ u w l k. none_yet u l.0 w l.1 k
+pub no_breach : RunsTellTrue → NoBreach
+no_breach = λ h u w l k. none_yet h u l.0 w l.1 k

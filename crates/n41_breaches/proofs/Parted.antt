@@ -23,8 +23,8 @@ use Rattle.n41_model.specs.declared.words.Sent.TheVariants.{Waits}
 use Rattle.n41_model.specs.declared.words.Setup.{Setup}
 use Rattle.n41_model.specs.declared.words.Verdict.{Verdict}
 use Rattle.n41_model.specs.declared.words.Verdict.TheVariants as v
-use Rattle.n41_calls.specs.Due.{is_session, may_step, bare_with, bare_request, item_due, with_plan, finishing, is_open, any_waits, waits_from, may_retry, may_own, may_begin, may_destroy, bare_due, on_free_slot, step_plan, phase_plan, bind_in, create_in, own_plan, destroy_plan, destroy_in, goes_again, any_own, is_running}
-use Rattle.n41_calls.specs.Calls.{plan_next, is_ready}
+use Rattle.n41_calls.specs.Due.{is_session, may_step, bare_with, bare_request, item_due, with_plan, finishing, is_open, any_waits, waits_from, may_retry, may_own, may_begin, may_destroy, bare_due, on_free_slot, step_plan, phase_plan, bind_in, create_in, own_plan, destroy_plan, destroy_in, client_free, has_handles, goes_again, any_own, is_running}
+use Rattle.n41_calls.specs.Calls.{files, plan_next, is_ready}
 use Rattle.n41_calls.specs.Kept.{Kept, May}
 use Rattle.n41_model.specs.Replies.{sequence_status}
 use Rattle.n41_model.specs.Requests.{bares, bare, bare_waits, outs, out, sent, sent_after, bare_verdict, verdict, is_bare, is_bare_use, is_on, is_waiting, moment, first}
@@ -182,10 +182,10 @@ end_waits u js item.Own r t o e n f =
     let h = (only_if_some (may_own u js) (with_plan (own_plan js) (on_free_slot u js)) r e).0 in
     inl (not_end u js r t o (first_not (finishing u.callers js) (passed (put_off js (phase js)) (moment js)) (not (any_own u.callers js)) h) n f)
 end_waits u js (item.Fresh c) r t o e n f =
-    let h = (only_if_some (may_begin u js c) (with_plan (plan_next u.callers js c) (on_free_slot u js)) r e).0 in
+    let h = (only_if_some (may_begin u js c) (with_plan (plan_next u.uid u.callers js c) (on_free_slot u js)) r e).0 in
     let a = (and_true (not (finishing u.callers js) && is_running (phase js) && nat_le (c + 1) u.callers) (is_ready u.callers js c) h).0 in
     inl (not_end u js r t o (first_not (finishing u.callers js) (is_running (phase js)) (nat_le (c + 1) u.callers) a) n f)
-end_waits u js item.Destroy r t o e n f = let h = only_if_some (may_destroy u js) (with_plan (destroy_plan js) (bare_due u js)) r e in inr (not_true (any_waits js) (and_true (finishing u.callers js && is_empty (bares js)) (not (any_waits js)) h.0).1)
+end_waits u js item.Destroy r t o e n f = let h = only_if_some (may_destroy u js) (with_plan (destroy_plan u.callers js) (bare_due u js)) r e in inr (not_true (any_waits js) (and_true (finishing u.callers js && is_empty (bares js)) (not (any_waits js)) h.0).1)
 
 -- a request on a slot goes only while the client does not finish
 slot_goes : (u : Setup) (js : List Event) (i : Item) (r : Request) (p : SlotUse) → Seats js → item_due u js i ≡ Some r → r.slot ≡ Some p → (finishing u.callers js ≡ false) ⊎ ((bare js ≡ Some r) ⊎ (NewBare u js r))
@@ -200,12 +200,12 @@ slot_goes u js item.Step r p t e n =
     inl (first_not (finishing u.callers js) (passed (put_off js (phase js)) (moment js)) (not (is_session (phase js) && any_waits js)) a)
 slot_goes u js item.Own r p t e n = inl (first_not (finishing u.callers js) (passed (put_off js (phase js)) (moment js)) (not (any_own u.callers js)) (only_if_some (may_own u js) (with_plan (own_plan js) (on_free_slot u js)) r e).0)
 slot_goes u js (item.Fresh c) r p t e n =
-    let h = (only_if_some (may_begin u js c) (with_plan (plan_next u.callers js c) (on_free_slot u js)) r e).0 in
+    let h = (only_if_some (may_begin u js c) (with_plan (plan_next u.uid u.callers js c) (on_free_slot u js)) r e).0 in
     let a = (and_true (not (finishing u.callers js) && is_running (phase js) && nat_le (c + 1) u.callers) (is_ready u.callers js c) h).0 in
     inl (first_not (finishing u.callers js) (is_running (phase js)) (nat_le (c + 1) u.callers) a)
 slot_goes u js item.Destroy r p t e n =
-    let h = only_if_some (may_destroy u js) (with_plan (destroy_plan js) (bare_due u js)) r e in
-    absurd (bare_slot (destroy_plan js) h.1) where
+    let h = only_if_some (may_destroy u js) (with_plan (destroy_plan u.callers js) (bare_due u js)) r e in
+    absurd (bare_slot (destroy_plan u.callers js) h.1) where
       with_bare : (q : Plan) (o : Option ℕ) → bare_with u q o ≡ Some r → ⊥
       with_bare q None f = absurd (cc)
       with_bare q (Some x) f = let d : bare_request u q x ≡ r = cc in slotted_not r p n (ap (λ (z : Request). z.slot) (sym d))
@@ -360,7 +360,7 @@ new_brings u js c p i r z v s sn sm t o d form a = record {
   binds_by x e (inl w) =
       let m = (asks_by u js (phase js) r.plan refl w.plan).binds x e in
       (ap (λ (q : Option SessionMade). sid_in q) (sn.kept_given m.0 m.1) ∙ ap (λ (q : SessionId). Some q) m.2, no_if u js (put_end js) t.end_over w.on)
-  binds_by x e (inr w) = absurd (true≢false (sym e ∙ (gives_up (session js) (client js) r.plan w.plan).0 x))
+  binds_by x e (inr w) = absurd (true≢false (sym e ∙ (gives_up (session js) (client_free (has_handles (files u.callers js).opens) (client js)) r.plan w.plan).0 x))
 
   exchanges_by : is_exchange r.plan ≡ true → ByStep u js r ⊎ ByEnd u js r → (given js ≡ None) × (client js ≡ None) × (put_drop js ≡ false)
   exchanges_by e (inl w) =
@@ -368,11 +368,11 @@ new_brings u js c p i r z v s sn sm t o d form a = record {
       let m : is_making (phase js) ≡ true = ap (λ (x : Phase). is_making x) f in
       let n = making_none u js sn m (session js) refl in
       (given_none u js sn n w.on (given js) refl, t.id_none f, no_if u js (put_drop js) t.drop_over w.on)
-  exchanges_by e (inr w) = absurd (true≢false (sym e ∙ (gives_up (session js) (client js) r.plan w.plan).1))
+  exchanges_by e (inr w) = absurd (true≢false (sym e ∙ (gives_up (session js) (client_free (has_handles (files u.callers js).opens) (client js)) r.plan w.plan).1))
 
   creates_by : (k : KnownClient) → create_of r.plan ≡ Some k → ByStep u js r ⊎ ByEnd u js r → (client js ≡ Some k) × (given js ≡ None)
   creates_by k e (inl w) = ((asks_by u js (phase js) r.plan refl w.plan).creates k e, sm.create_first r o (create_is r.plan k e))
-  creates_by k e (inr w) = absurd (let f : None ≡ Some k = sym (gives_up (session js) (client js) r.plan w.plan).2 ∙ e in cc)
+  creates_by k e (inr w) = absurd (let f : None ≡ Some k = sym (gives_up (session js) (client_free (has_handles (files u.callers js).opens) (client js)) r.plan w.plan).2 ∙ e in cc)
 
 again_brings : (u : Setup) (js : List Event) (r : Request) → Single u js → Parted u js → AgainBare js r → Brings u js r
 again_brings u js r s t a = record {
@@ -386,7 +386,7 @@ again_brings u js r s t a = record {
 put_parted : (u : Setup) (js : List Event) (c p : ℕ) (r : Request) → (h : May u js (Put c p r)) → Seats js → Known js → Said js → Single u js → Single u (Put c p r ∷ js) → Parted u js → Parted u (Put c p r ∷ js)
 put_parted u js c p r h z v s sn sm t = by (put_of u js h.0 r h.1.is_due).form where
   d : item_due u js h.0 ≡ Some r
-  d = (only_if_some (is_open js) (item_due u js h.0) r h.1.is_due).1
+  d = (only_if_some (is_open u.callers js) (item_due u js h.0) r h.1.is_due).1
 
   l : Placed js r
   l = put_placed u js h.0 r h.1.is_due

@@ -9,4 +9,4 @@ use Rattle.n41_runs.specs.Steps.{client}
 
 -- in a legal run no reply is taken that breaks the rules
 abbrev pub NoBreach : Type 0
-NoBreach = (u : Setup) (w : List Step) → Legal w → Kept u (client w) → breach_at (client w) ≡ None
+NoBreach = (u : Setup) (w : List Step) → Legal w → Kept u (client w) → breach_at u.callers (client w) ≡ None

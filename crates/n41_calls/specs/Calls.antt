@@ -62,7 +62,7 @@ abbrev pub named_in : List (List ℕ × ℕ) → Option (List ℕ) → Option �
 named_in labels None = None
 named_in labels (Some l) = lookup (pointwise nat_eq l) labels
 
--- a label names the handle that its caller opened last with it
+-- a label names the handle that its caller opened last with it: from the reply on that made it
 abbrev pub bound_to : Option (List ℕ) → Option ℕ → List (List ℕ × ℕ) → List (List ℕ × ℕ)
 bound_to (Some l) (Some h) labels = insert_entry (slice_cmp nat_cmp) labels l h
 bound_to l h labels = labels
@@ -123,6 +123,16 @@ abbrev pub way_after : ℕ → Stale → Option Command → Plan → Option Verd
 way_after h t c p (Some (v.Ran s)) y w = if is_ok s then step_of h c p y w else if is_outdated c s then record w { stale = Some t } else w
 way_after h t c p v y w = w
 
+-- An OK to an open names its handle, whose number is `h`. A refresh opens none.
+abbrev pub labels_by : ℕ → Option Command → Plan → List (List ℕ × ℕ) → List (List ℕ × ℕ)
+labels_by h (Some k) (plan.CreateFile d n g o) ls = bound_to (new_label k) (Some h) ls
+labels_by h (Some k) (plan.OpenAt fh m o c) ls = bound_to (new_label k) (Some h) ls
+labels_by h k p ls = ls
+
+abbrev pub labels_took : ℕ → Option Command → Plan → Option Verdict → List (List ℕ × ℕ) → List (List ℕ × ℕ)
+labels_took h k p (Some (v.Ran s)) ls = if is_ok s then labels_by h k p ls else ls
+labels_took h k p w ls = ls
+
 -- what a call knows at a reply: the moment, the number of the next handle, what it goes by if its stateid is outdated, and whether no other
 -- handle has the record of its own
 pub record Hour : Type 0 where
@@ -141,18 +151,17 @@ took_call t c p w y k =
       attempts = attempts_after w k.attempts;
       earned = answer_in c t.alone k.way p w k.attempts y;
       way = way_after t.handle t.stale c p w y k.way;
-      labels = k.labels;
+      labels = labels_took t.handle c p w k.labels;
     }
     else k
 
--- its answer was given
-abbrev pub labels_after : Option Command → Answer → Way → List (List ℕ × ℕ) → List (List ℕ × ℕ)
-labels_after (Some k) (says.Done value.Opened) w ls = bound_to (new_label k) w.handle ls
-labels_after (Some k) (says.Done value.Closed) w ls = unbound (label_of k) ls
-labels_after k a w ls = ls
+-- its answer was given: the label of a handle that was closed names none
+abbrev pub labels_after : Option Command → Answer → List (List ℕ × ℕ) → List (List ℕ × ℕ)
+labels_after (Some k) (says.Done value.Closed) ls = unbound (label_of k) ls
+labels_after k a ls = ls
 
 abbrev pub answered_call : Option Command → Answer → Call → Call
-answered_call c a k = record k { earned = None; labels = labels_after c a k.way k.labels }
+answered_call c a k = record k { earned = None; labels = labels_after c a k.labels }
 
 -- ---- opens that are out
 

@@ -1,19 +1,14 @@
-//! The handles that callers have (stand-in).
+//! The handles that callers have, and what replies do to them.
 #![tactic(auto)]
 
-use n41_types::Label;
-use std::marker::Model;
+mod commands;
+mod files;
+mod results;
+mod seen;
+#[cfg(test)]
+mod tests;
 
-/// The handles that a caller's labels name.
-#[derive(Drop)]
-pub struct Labels {
-    entries: Vec<(Label, u64)>,
-}
-
-impl Model for Labels {
-    ghost use Rattle.std.specs.Prelude.{List, ℕ};
-
-    ghost Value = { List (List ℕ × ℕ) };
-
-    ghost view = { λ l. l.entries.items };
-}
+pub use commands::{is_close, label_of, new_label};
+pub use files::Files;
+pub use results::{open_stateid, reached, shrunk_stateid};
+pub use seen::Seen;

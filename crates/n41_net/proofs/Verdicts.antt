@@ -18,6 +18,7 @@ use Rattle.n41_results.specs.Results.{ok, status_of}
 use Rattle.n41_model.specs.declared.words.Verdict.{Verdict}
 use Rattle.n41_model.specs.declared.words.Verdict.TheVariants as v
 use Rattle.n41_model.specs.Replies.{is_ok, is_delay, is_not_bound, is_uncached, is_size_refusal, is_reading, is_final, gives_back, is_loss, is_half_open, is_unlawful, names_state, repeats, has_its_answer, uncached_verdict, ran_verdict, sequenced_verdict, refused_verdict, body_verdict, verdict_of, sequence_status, status_passes, status_refuses}
+use Rattle.n41_runs.specs.OpenRules.{loses, tells_loss}
 use Rattle.n41_runs.specs.Rules.{IsRun, is_uncached_body, is_gone}
 use Rattle.n41_runs.specs.Steps.{ran_reply, end_status, refusal}
 
@@ -43,16 +44,7 @@ ends w = true
 
 -- ---- a turn that ran
 
--- an operation that names an open record was told that it is lost
-abbrev pub loses : Plan → Status → Bool
-loses p s = names_state p && is_loss s
-
--- the reply tells so
-abbrev pub tells_loss : Plan → ReplyBody → Bool
-tells_loss p (Results s xs) = loses p s
-tells_loss p b = false
-
--- the operations ran: their status is told, or such a loss
+-- the operations ran: their status is told, or that an open record is lost
 abbrev pub has_run : Plan → ReplyBody → Verdict → Bool
 has_run p b (v.Ran s) = true
 has_run p b v.Breach = tells_loss p b

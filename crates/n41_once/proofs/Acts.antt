@@ -28,11 +28,10 @@ use Rattle.n41_results.specs.Results.{ok, operation_of, status_of}
 use Rattle.n41_results.specs.Shapes.{put_of, operations_of, behind, asked_of, shape_from, shape_of, misfit, nothing_after, attr_or, unasked_in, body_shape}
 use Rattle.n41_model.specs.declared.words.Listed.{Listed}
 use Rattle.n41_calls.specs.Values.{value_of, body_value, wrote_value}
-use Rattle.n41_model.specs.declared.words.Verdict.{Verdict}
 use Rattle.n41_model.specs.declared.words.Verdict.TheVariants as v
 use Rattle.n41_model.specs.Replies.{is_ok, is_delay, is_not_bound, is_uncached, is_size_refusal, is_reading, is_loss, is_half_open, is_unlawful, names_state, has_its_answer, writes_within, repeats, ran_verdict, sequenced_verdict, uncached_verdict, refused_verdict, body_verdict, verdict_of}
 use Rattle.n41_moves.proofs.Suits.{is_change, is_walk}
-use Rattle.n41_net.proofs.Verdicts.{tells_loss}
+use Rattle.n41_runs.specs.OpenRules.{tells_loss}
 use Rattle.n41_runs.specs.Effects.{change_of, is_done, has_done, acts}
 use Rattle.n41_runs.specs.Rules.{IsRun, is_ok_error}
 use Rattle.n41_runs.specs.Steps.{ran_reply, end_status}

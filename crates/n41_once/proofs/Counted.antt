@@ -10,15 +10,12 @@ use Rattle.n41_types.specs.declared.plans.Request.{Request}
 use Rattle.n41_types.specs.declared.plans.SlotUse.{SlotUse}
 use Rattle.n41_types.specs.declared.statuses.Status.{Status}
 use Rattle.n41_results.specs.declared.replies.ReplyBody.{ReplyBody}
-use Rattle.n41_model.specs.declared.words.Verdict.TheVariants as v
 use Rattle.n41_calls.specs.Calls.{Call, call, command, number}
-use Rattle.n41_model.specs.Replies.{is_ok, body_verdict}
 use Rattle.n41_model.specs.Requests.{out, used}
 use Rattle.n41_calls.specs.Text.{answer_to}
-use Rattle.n41_once.proofs.Acts.{acts_in}
+use Rattle.n41_once.proofs.Acts.{acts_in, ends_ok}
 use Rattle.n41_served.proofs.Served.{IsOn, IsCopy}
-use Rattle.n41_moves.proofs.Suits.{is_dir_change}
-use Rattle.n41_told.proofs.Telling.{is_given}
+use Rattle.n41_moves.proofs.Suits.{is_change}
 use Rattle.n41_runs.specs.declared.commands.CommandName.{CommandName}
 use Rattle.n41_runs.specs.Effects.{Effect, is_named, asked, is_changing, command_on, command_of, effects, effects_of, count_of}
 use Rattle.n41_runs.specs.Good.{is_undone}
@@ -33,7 +30,7 @@ once false = 0
 
 -- the effects of commands, by what is out and by what was answered
 pub record Weighed (n : ℕ) (w : List Step) : Type 0 where
-  pub acts_is : (r : Request) (p : SlotUse) (b : ReplyBody) (t : Bool) (s : Status) → IsOn (client w) r p → last w p.sid p.slot ≡ used (client w) p.slot → kept w p.sid p.slot ≡ Some b → is_dir_change r.plan ≡ true → body_verdict r t b ≡ v.Ran s → acts_in r.plan b ≡ is_ok s
+  pub acts_is : (r : Request) (p : SlotUse) (b : ReplyBody) → IsOn (client w) r p → last w p.sid p.slot ≡ used (client w) p.slot → kept w p.sid p.slot ≡ Some b → is_change r.plan ≡ true → acts_in r.plan b ≡ ends_ok b
   pub before : (r : Request) (p : SlotUse) (c m : ℕ) → IsOn (client w) r p → is_named (command_on n (client w) p.slot) c m ≡ true → last w p.sid p.slot ≢ used (client w) p.slot → effects_of n w c m ≡ 0
   pub after : (r : Request) (p : SlotUse) (c m : ℕ) (b : ReplyBody) → IsOn (client w) r p → is_named (command_on n (client w) p.slot) c m ≡ true → last w p.sid p.slot ≡ used (client w) p.slot → kept w p.sid p.slot ≡ Some b → effects_of n w c m ≡ once (acts_in r.plan b)
   pub most : (c m : ℕ) → effects_of n w c m ≤ 1
@@ -42,12 +39,19 @@ pub record Weighed (n : ℕ) (w : List Step) : Type 0 where
   pub undone : (c m : ℕ) (a : Answer) → answer_to (client w) c m ≡ Some a → is_undone a ≡ true → effects_of n w c m ≡ 0
   pub own : All (λ (e : Effect). IsSome e.command) (effects n w)
 
--- by what the calls have earned
+-- the answers that replies give
+abbrev pub is_earned : Answer → Bool
+is_earned (says.Done x) = true
+is_earned (says.Refused s) = true
+is_earned a = false
+
+-- by what the calls have earned; only a close is ever lowered
 pub record Earned (n : ℕ) (w : List Step) : Type 0 where
   pub idle : (c : ℕ) → command (client w) c ≢ None → (call n (client w) c).busy ≡ false → (call n (client w) c).earned ≡ None → effects_of n w c (number (client w) c) ≡ 0
   pub done : (c : ℕ) (k : Command) (x : Value) → command (client w) c ≡ Some k → (call n (client w) c).earned ≡ Some (says.Done x) → is_changing k ≡ true → effects_of n w c (number (client w) c) ≡ 1
   pub refused : (c : ℕ) (s : Status) → command (client w) c ≢ None → (call n (client w) c).earned ≡ Some (says.Refused s) → effects_of n w c (number (client w) c) ≡ 0
-  pub given : (c : ℕ) (a : Answer) → (call n (client w) c).earned ≡ Some a → is_given a ≡ true
+  pub given : (c : ℕ) (a : Answer) → (call n (client w) c).earned ≡ Some a → is_earned a ≡ true
+  pub lowered : (c : ℕ) (k : Command) → command (client w) c ≡ Some k → (call n (client w) c).way.lowered ≡ true → is_changing k ≡ false
 
 -- a copy of what is out is of the same command
 abbrev pub Copies : ℕ → Sizes → List Step → Type 0
@@ -72,7 +76,7 @@ pub record Keeps (n : ℕ) (w : List Step) (st : Step) : Type 0 where
 
 pub keep_weighed : (n : ℕ) (w : List Step) (st : Step) → Weighed n w → Keeps n w st → Weighed n (st ∷ w)
 keep_weighed n w st g k = record {
-  acts_is = λ r p b t s o e f d h. g.acts_is r p b t s (was_on r p o) (was_last r p o e) (sym (k.kepts p.sid p.slot) ∙ f) d h;
+  acts_is = λ r p b o e f d. g.acts_is r p b (was_on r p o) (was_last r p o e) (sym (k.kepts p.sid p.slot) ∙ f) d;
   before = λ r p c m o e f. count c m ∙ g.before r p c m (was_on r p o) (was_named p c m e) (λ h. f (is_last r p o h));
   after = λ r p c m b o e f h. count c m ∙ g.after r p c m b (was_on r p o) (was_named p c m e) (was_last r p o f) (sym (k.kepts p.sid p.slot) ∙ h);
   most = λ c m. let f = count c m in let h = g.most c m in omega arith;
@@ -109,6 +113,7 @@ keep_earned n w st g k = record {
   done = λ c y x e f h. count c ∙ g.done c y x (sym (k.commands c) ∙ e) (sym (ap (λ (z : Call). z.earned) (k.calls c)) ∙ f) h;
   refused = λ c s e f. count c ∙ g.refused c s (λ i. e (k.commands c ∙ i)) (sym (ap (λ (z : Call). z.earned) (k.calls c)) ∙ f);
   given = λ c a e. g.given c a (sym (ap (λ (z : Call). z.earned) (k.calls c)) ∙ e);
+  lowered = λ c y e f. g.lowered c y (sym (k.commands c) ∙ e) (sym (ap (λ (z : Call). z.way.lowered) (k.calls c)) ∙ f);
 } where
   count : (c : ℕ) → effects_of n (st ∷ w) c (number (client (st ∷ w)) c) ≡ effects_of n w c (number (client w) c)
   count c = ap (λ (es : List Effect). count_of es c (number (client (st ∷ w)) c)) k.effs ∙ ap (λ (m : ℕ). count_of (effects n w) c m) (k.numbers c)

@@ -11,14 +11,10 @@ use Rattle.n41_types.specs.declared.plans.SlotUse.{SlotUse}
 use Rattle.n41_types.specs.declared.statuses.Status.{Status}
 use Rattle.n41_results.specs.declared.replies.ReplyBody.{ReplyBody}
 use Rattle.n41_journal.specs.declared.events.Event.{Event}
-use Rattle.n41_model.specs.declared.words.Verdict.TheVariants as v
 use Rattle.n41_calls.specs.Calls.{Call, call, command, is_caller, number, put_call}
-use Rattle.n41_model.specs.Replies.{body_verdict, is_ok}
 use Rattle.n41_model.specs.Requests.{slot_number, first, out, used}
-use Rattle.n41_once.proofs.Acts.{acts_in}
 use Rattle.n41_served.proofs.Served.{IsCopy, IsOn, Served}
-use Rattle.n41_moves.proofs.Suits.{is_dir_change}
-use Rattle.n41_told.proofs.Telling.{is_given}
+use Rattle.n41_moves.proofs.Suits.{is_change}
 use Rattle.n41_runs.specs.declared.commands.CommandName.{CommandName}
 use Rattle.n41_runs.specs.Effects.{command_at, command_of, command_on, effects_of, is_changing, is_named, last_of}
 use Rattle.n41_runs.specs.Rules.{Sizes}
@@ -38,8 +34,8 @@ use Rattle.n41_moves.proofs.Said.{Said}
 use Rattle.n41_moves.proofs.Single.{Single, given, sid_in}
 use Rattle.n41_told.proofs.Told.{named_owner}
 use Rattle.n41_net.proofs.Lives.{Lives}
-use Rattle.n41_once.proofs.Acts.{acts_in}
-use Rattle.n41_once.proofs.Counted.{once, Counted, keep_weighed, keep_earned}
+use Rattle.n41_once.proofs.Acts.{acts_in, ends_ok}
+use Rattle.n41_once.proofs.Counted.{once, is_earned, Counted, keep_weighed, keep_earned}
 use Rattle.n41_served.proofs.Putting.{PutsOn, again_on, new_on, used_here, used_there}
 
 -- ---- messages
@@ -133,7 +129,7 @@ bare_counted n sizes w c m r g e o = record {
 pub new_counted : (u : Setup) (sizes : Sizes) (w : List Step) (c m : ℕ) (r : Request) → Seats (client w) → Single u (client w) → Said (client w) → Lives u w → Served sizes w → Counted u.callers sizes w → (a : NewOn u (client w) r) → Counted u.callers sizes (Does (Put c m r) ∷ w)
 new_counted u sizes w c m r z s i lv d g a = record {
   weighed = record {
-    acts_is = λ q x b t st o e f h j. acts_at q x b t st o e f h j (a.place.slot == x.slot) refl;
+    acts_is = λ q x b o e f h. acts_at q x b o e f h (a.place.slot == x.slot) refl;
     before = λ q x y k o e f. before_at q x y k o e f (a.place.slot == x.slot) refl;
     after = λ q x y k b o e f h. after_at q x y k b o e f h (a.place.slot == x.slot) refl;
     most = g.weighed.most;
@@ -147,6 +143,7 @@ new_counted u sizes w c m r z s i lv d g a = record {
     done = λ x k y e f h. done_at x k y e f h (is_caller (new_owner u.callers (client w) r) x) refl;
     refused = λ x st e f. refused_at x st e f (is_caller (new_owner u.callers (client w) r) x) refl;
     given = λ x y e. given_at x y e (is_caller (new_owner u.callers (client w) r) x) refl;
+    lowered = λ x y e f. lowered_at x y e (is_caller (new_owner u.callers (client w) r) x) refl f;
   };
   copies = λ k q x y e f. copies_at k q x y e f (a.place.slot == y.slot) refl (put_name u.callers (client w) c m k r q a.place false i (new_on (client w) r a.place b) e.put);
 } where
@@ -200,9 +197,9 @@ new_counted u sizes w c m r z s i lv d g a = record {
       let t = low in
       absurd (omega arith)
 
-  acts_at : (q : Request) (x : SlotUse) (b2 : ReplyBody) (t : Bool) (st : Status) → IsOn (Put c m r ∷ client w) q x → last w x.sid x.slot ≡ used (Put c m r ∷ client w) x.slot → kept w x.sid x.slot ≡ Some b2 → is_dir_change q.plan ≡ true → body_verdict q t b2 ≡ v.Ran st → (y : Bool) → (a.place.slot == x.slot) ≡ y → acts_in q.plan b2 ≡ is_ok st
-  acts_at q x b2 t st o e f h j true y = absurd (not_run q x o y e)
-  acts_at q x b2 t st o e f h j false y = g.weighed.acts_is q x b2 t st (was_on q x o y) (e ∙ used_old x.slot y) f h j
+  acts_at : (q : Request) (x : SlotUse) (b2 : ReplyBody) → IsOn (Put c m r ∷ client w) q x → last w x.sid x.slot ≡ used (Put c m r ∷ client w) x.slot → kept w x.sid x.slot ≡ Some b2 → is_change q.plan ≡ true → (y : Bool) → (a.place.slot == x.slot) ≡ y → acts_in q.plan b2 ≡ ends_ok b2
+  acts_at q x b2 o e f h true y = absurd (not_run q x o y e)
+  acts_at q x b2 o e f h false y = g.weighed.acts_is q x b2 (was_on q x o y) (e ∙ used_old x.slot y) f h
 
   new_name : (x y k : ℕ) → (a.place.slot == x) ≡ true → is_named (command_on u.callers (Put c m r ∷ client w) x) y k ≡ true → effects_of u.callers w y k ≡ 0
   new_name x y k e f =
@@ -243,9 +240,13 @@ new_counted u sizes w c m r z s i lv d g a = record {
   refused_at x st e f true t = no_earned x (says.Refused st) t f
   refused_at x st e f false t = g.earned.refused x st e (sym (ap (λ (j : Call). j.earned) (call_old x t)) ∙ f)
 
-  given_at : (x : ℕ) (y : Answer) → (call u.callers (Put c m r ∷ client w) x).earned ≡ Some y → (t : Bool) → is_caller (new_owner u.callers (client w) r) x ≡ t → is_given y ≡ true
+  given_at : (x : ℕ) (y : Answer) → (call u.callers (Put c m r ∷ client w) x).earned ≡ Some y → (t : Bool) → is_caller (new_owner u.callers (client w) r) x ≡ t → is_earned y ≡ true
   given_at x y e true t = no_earned x y t e
   given_at x y e false t = g.earned.given x y (sym (ap (λ (j : Call). j.earned) (call_old x t)) ∙ e)
+
+  lowered_at : (x : ℕ) (y : Command) → command (client w) x ≡ Some y → (t : Bool) → is_caller (new_owner u.callers (client w) r) x ≡ t → (call u.callers (Put c m r ∷ client w) x).way.lowered ≡ true → is_changing y ≡ false
+  lowered_at x y e true t f = g.earned.lowered x y e (sym (ap (λ (j : Call). j.way.lowered) (call_new x t)) ∙ f)
+  lowered_at x y e false t f = g.earned.lowered x y e (sym (ap (λ (j : Call). j.way.lowered) (call_old x t)) ∙ f)
 
   copies_at : (k : ℕ) (q x : Request) (y : SlotUse) → IsCopy sizes (Put c m r ∷ client w) k q y → out (Put c m r ∷ client w) y.slot ≡ Some x → (t : Bool) → (a.place.slot == y.slot) ≡ t → ((r ≡ q) × (command_of u.callers (Put c m r ∷ client w) k ≡ command_on u.callers (Put c m r ∷ client w) a.place.slot)) ⊎ ((message (client w) k ≡ Some q) × (command_of u.callers (Put c m r ∷ client w) k ≡ command_of u.callers (client w) k)) → command_of u.callers (Put c m r ∷ client w) k ≡ command_on u.callers (Put c m r ∷ client w) y.slot
   copies_at k q x y e f t h (inl (j, o)) =

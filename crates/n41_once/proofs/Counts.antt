@@ -2,9 +2,9 @@
 use Rattle.n41_served.proofs.Taking.{served}
 use Rattle.n41_once.proofs.Counting.{again_counted, bare_counted, new_counted}
 use Rattle.std.proofs.lemmas.List.Elements.{All-cons}
-use Rattle.std.proofs.Common.{Bool, List, None, Option, Some, [], ap, arith, false, if◌then◌else◌, inl, inr, refl, subst, suc, sym, true, true≢false, ℕ, ◌&&◌, ◌-◌, ◌<◌, ◌==◌, ◌∙◌, ◌∷◌, ◌≡◌, ◌≢◌, ◌≤◌, ◌⊎◌}
+use Rattle.std.proofs.Common.{Bool, List, None, Option, Some, [], ap, arith, false, if◌then◌else◌, inl, inr, refl, subst, suc, sym, true, true≢false, ℕ, ◌&&◌, not, ◌-◌, ◌<◌, ◌==◌, ◌∙◌, ◌∷◌, ◌≡◌, ◌≢◌, ◌≤◌, ◌⊎◌}
 use Rattle.std.proofs.lemmas.Bool.Decides.{nat_tests}
-use Rattle.std.specs.Prelude.{All, IsSome, nat_le}
+use Rattle.std.specs.Prelude.{All, IsSome, nat_le, is_none, is_some}
 use Rattle.n41_types.specs.declared.commands.Answer.{Answer}
 use Rattle.n41_types.specs.declared.commands.Answer.TheVariants as says
 use Rattle.n41_types.specs.declared.commands.Command.{Command}
@@ -15,15 +15,15 @@ use Rattle.n41_types.specs.declared.plans.SlotUse.{SlotUse}
 use Rattle.n41_types.specs.declared.statuses.Status.{Status}
 use Rattle.n41_results.specs.declared.replies.ReplyBody.{ReplyBody}
 use Rattle.n41_journal.specs.declared.events.Event.{Event}
-use Rattle.n41_model.specs.declared.words.Verdict.TheVariants as v
-use Rattle.n41_calls.specs.Calls.{answered_call, began_on, call, command, either, fresh_call, given as given_answer, number, owner, pause_given, way_of}
-use Rattle.n41_model.specs.Replies.{body_verdict, is_ok}
+use Rattle.n41_calls.specs.Calls.{answered_call, began_on, call, command, either, fresh_call, given as given_answer, handle_given, keeps_seen, named_in, number, owner, pause_given, seen}
+use Rattle.n41_calls.specs.Walks.{Seen, label_of}
+use Rattle.n41_calls.specs.Values.{is_close}
+use Rattle.n41_told.proofs.Handles.{Handled}
 use Rattle.n41_model.specs.Requests.{bares, doubt, moment, out, rounds, sent, used}
 use Rattle.n41_calls.specs.Text.{answer_to}
-use Rattle.n41_once.proofs.Acts.{acts_in, run_acts}
 use Rattle.n41_served.proofs.Served.{IsCopy, IsOn, Ran, Served, body_in}
-use Rattle.n41_moves.proofs.Suits.{change_class, is_dir_change}
-use Rattle.n41_told.proofs.Telling.{is_given, new_class, some_command, told}
+use Rattle.n41_moves.proofs.Suits.{change_class, is_change}
+use Rattle.n41_told.proofs.Telling.{is_given, given_idle, handled, new_class, some_command, told}
 use Rattle.n41_runs.specs.declared.commands.CommandName.{CommandName}
 use Rattle.n41_runs.specs.Effects.{Effect, asked, change_of, command_of, command_on, effects, effects_of, is_changing, is_named, has_done, acts}
 use Rattle.n41_runs.specs.Good.{is_undone}
@@ -31,7 +31,7 @@ use Rattle.n41_runs.specs.Rules.{Allowed, IsNoReply, LegalBy, Sizes}
 use Rattle.n41_runs.specs.Server.{kept, last}
 use Rattle.n41_runs.specs.declared.steps.Step.{Step}
 use Rattle.n41_runs.specs.declared.steps.Step.TheVariants.{Binds, Does, Ends, Makes, Names, Refuses, Repeats, Runs, Takes}
-use Rattle.n41_runs.specs.Steps.{client, end_status, fate, ran_reply}
+use Rattle.n41_runs.specs.Steps.{client, fate, ran_reply}
 use Rattle.n41_types.specs.declared.commands.Command.TheVariants as asks
 use Rattle.n41_journal.specs.declared.events.Event.TheVariants.{Answered, Began, Broke, CbPut, CbTook, DialFailed, Dialed, Put, Quit, Ticked, Took}
 use Rattle.n41_model.specs.declared.words.Setup.{Setup}
@@ -52,15 +52,13 @@ use Rattle.n41_model.specs.declared.words.Sent.TheVariants.{Waits}
 use Rattle.n41_net.proofs.Lives.{Lives, lives}
 use Rattle.n41_net.proofs.Net.{net, taken_is}
 use Rattle.n41_served.proofs.Running.{is_on as on_at, IsNext, run_is_next, runs_last, runs_kept, here_is, there_is}
-use Rattle.n41_net.proofs.Verdicts.{run_verdict}
 use Rattle.n41_results.specs.declared.results.Res.{Res}
 use Rattle.n41_results.specs.declared.sessions.Sequenced.{Sequenced}
-use Rattle.n41_results.specs.Results.{ok}
-use Rattle.n41_once.proofs.Acts.{acts_in, no_change, run_acts}
-use Rattle.n41_once.proofs.Counted.{once, Copies, Counted, Keeps, SameCalls, keep_weighed, keep_earned}
+use Rattle.n41_once.proofs.Acts.{acts_in, ends_ok, no_change, run_acts}
+use Rattle.n41_once.proofs.Counted.{once, is_earned, Copies, Counted, Keeps, SameCalls, keep_weighed, keep_earned}
 use Rattle.n41_told.proofs.Settled.{Settled, settled}
 use Rattle.n41_types.specs.declared.operations.Operation.{Operation}
-use Rattle.n41_once.proofs.Weighing.{at_most, copy_of, taken_counted}
+use Rattle.n41_once.proofs.Weighing.{at_most, copy_of, fresh_lowered, taken_counted}
 
 -- ---- a command begins
 
@@ -81,6 +79,7 @@ began_counted u sizes w c m k x s g h = record {
     done = λ d y v e f i. done_call d y v (c == d) refl e f i;
     refused = λ d st e f. refused_at d st (c == d) refl e f;
     given = λ d a e. given_at d a (c == d) refl e;
+    lowered = λ d y e f. lowered_at d y (c == d) refl e f;
   };
   copies = copy_of u.callers sizes w (Began c m k x ∷ client w) g.copies (λ _. refl) (λ _. refl) (λ _. refl) (λ _ _ e. (e, refl));
 } where
@@ -111,21 +110,25 @@ began_counted u sizes w c m k x s g h = record {
       let i = h.number_is in
       subst (λ (y : ℕ). effects_of u.callers w y m ≡ 0) a (g.weighed.later c m (omega arith))
 
-  idle_at : (d : ℕ) (b : Bool) → (c == d) ≡ b → (if c == d then Some k else command (client w) d) ≢ None → (if c == d then fresh_call (way_of k) else call u.callers (client w) d).busy ≡ false → (if c == d then fresh_call (way_of k) else call u.callers (client w) d).earned ≡ None → effects_of u.callers w d (if c == d then m else number (client w) d) ≡ 0
+  idle_at : (d : ℕ) (b : Bool) → (c == d) ≡ b → (if c == d then Some k else command (client w) d) ≢ None → (if c == d then fresh_call k (call u.callers (client w) d) else call u.callers (client w) d).busy ≡ false → (if c == d then fresh_call k (call u.callers (client w) d) else call u.callers (client w) d).earned ≡ None → effects_of u.callers w d (if c == d then m else number (client w) d) ≡ 0
   idle_at d true e f i j = rw e (new_zero d e)
   idle_at d false e f i j = rw e (g.earned.idle d (rw e at f) (rw e at i) (rw e at j))
 
-  done_call : (d : ℕ) (y : Command) (z : Value) (b : Bool) → (c == d) ≡ b → (if c == d then Some k else command (client w) d) ≡ Some y → (if c == d then fresh_call (way_of k) else call u.callers (client w) d).earned ≡ Some (says.Done z) → is_changing y ≡ true → effects_of u.callers w d (if c == d then m else number (client w) d) ≡ 1
+  done_call : (d : ℕ) (y : Command) (z : Value) (b : Bool) → (c == d) ≡ b → (if c == d then Some k else command (client w) d) ≡ Some y → (if c == d then fresh_call k (call u.callers (client w) d) else call u.callers (client w) d).earned ≡ Some (says.Done z) → is_changing y ≡ true → effects_of u.callers w d (if c == d then m else number (client w) d) ≡ 1
   done_call d y z true e f i j = absurd (let o : None ≡ Some (says.Done z) = (rw e at i) in cc)
   done_call d y z false e f i j = rw e (g.earned.done d y z (rw e at f) (rw e at i) j)
 
-  refused_at : (d : ℕ) (st : Status) (b : Bool) → (c == d) ≡ b → (if c == d then Some k else command (client w) d) ≢ None → (if c == d then fresh_call (way_of k) else call u.callers (client w) d).earned ≡ Some (says.Refused st) → effects_of u.callers w d (if c == d then m else number (client w) d) ≡ 0
+  refused_at : (d : ℕ) (st : Status) (b : Bool) → (c == d) ≡ b → (if c == d then Some k else command (client w) d) ≢ None → (if c == d then fresh_call k (call u.callers (client w) d) else call u.callers (client w) d).earned ≡ Some (says.Refused st) → effects_of u.callers w d (if c == d then m else number (client w) d) ≡ 0
   refused_at d st true e f i = rw e (new_zero d e)
   refused_at d st false e f i = rw e (g.earned.refused d st (rw e at f) (rw e at i))
 
-  given_at : (d : ℕ) (a : Answer) (b : Bool) → (c == d) ≡ b → (if c == d then fresh_call (way_of k) else call u.callers (client w) d).earned ≡ Some a → is_given a ≡ true
+  given_at : (d : ℕ) (a : Answer) (b : Bool) → (c == d) ≡ b → (if c == d then fresh_call k (call u.callers (client w) d) else call u.callers (client w) d).earned ≡ Some a → is_earned a ≡ true
   given_at d a true e f = absurd (let o : None ≡ Some a = (rw e at f) in cc)
   given_at d a false e f = g.earned.given d a (rw e at f)
+
+  lowered_at : (d : ℕ) (y : Command) (b : Bool) → (c == d) ≡ b → (if c == d then Some k else command (client w) d) ≡ Some y → (if c == d then fresh_call k (call u.callers (client w) d) else call u.callers (client w) d).way.lowered ≡ true → is_changing y ≡ false
+  lowered_at d y true e f i = absurd (fresh_lowered k (named_in (call u.callers (client w) d).labels (label_of k)) (rw e at i))
+  lowered_at d y false e f i = g.earned.lowered d y (rw e at f) (rw e at i)
 
 -- ---- a command is answered
 
@@ -144,6 +147,33 @@ pause_refused x m (Some (asks.Pause t)) s e = by (nat_le t (m - x)) e where
   by false f = absurd (cc)
 pause_refused x m o s e = absurd (cc)
 
+-- a handle gives no answer to a change but that it is not open
+handle_done : (b : Bool) (k : Command) (o : Option Seen) (a : Value) → is_changing k ≡ true → handle_given b (Some k) o ≡ Some (says.Done a) → ⊥
+handle_done b k o a e f = by (is_some (label_of k) && is_none o) f where
+  close_no : (c : Command) → is_close (Some c) ≡ true → is_changing c ≡ false
+  close_no (asks.Close l) g = refl
+  close_no c g = absurd (true≢false (sym g))
+
+  and_first : (x y z : Bool) → (x && y && z) ≡ true → x ≡ true
+  and_first true y z g = refl
+  and_first false y z g = absurd (true≢false (sym g))
+
+  later : (d : Bool) → (is_close (Some k) && keeps_seen o && not b) ≡ d → (if d then Some (says.Done value.Closed) else None) ≡ Some (says.Done a) → ⊥
+  later true g h = true≢false (sym e ∙ close_no k (and_first (is_close (Some k)) (keeps_seen o) (not b) g))
+  later false g h = absurd (cc)
+
+  by : (d : Bool) → (if d then Some says.NotOpen else (if is_close (Some k) && keeps_seen o && not b then Some (says.Done value.Closed) else None)) ≡ Some (says.Done a) → ⊥
+  by true g = absurd (cc)
+  by false g = later (is_close (Some k) && keeps_seen o && not b) refl g
+
+handle_refused : (b : Bool) (k : Option Command) (o : Option Seen) (s : Status) → handle_given b k o ≡ Some (says.Refused s) → ⊥
+handle_refused b None o s f = absurd (cc)
+handle_refused b (Some k) o s f = by (is_some (label_of k) && is_none o) (is_close (Some k) && keeps_seen o && not b) f where
+  by : (d e : Bool) → (if d then Some says.NotOpen else (if e then Some (says.Done value.Closed) else None)) ≡ Some (says.Refused s) → ⊥
+  by true e g = absurd (cc)
+  by false true g = absurd (cc)
+  by false false g = absurd (cc)
+
 either_some : (o q : Option Answer) (a : Answer) → either o q ≡ Some a → (o ≡ Some a) ⊎ (q ≡ Some a)
 either_some None q a e = inr e
 either_some (Some x) q a e = inl e
@@ -152,8 +182,8 @@ either_none : (o q : Option Answer) → either o q ≡ None → o ≡ None
 either_none None q e = refl
 either_none (Some x) q e = absurd (cc)
 
-answered_counted : (u : Setup) (sizes : Sizes) (w : List Step) (c m : ℕ) (x : Answer) → Said (client w) → Told u.callers (client w) → Served sizes w → Counted u.callers sizes w → Seats (client w) → Single u (client w) → MayAnswer u (client w) c m x → Counted u.callers sizes (Does (Answered c m x) ∷ w)
-answered_counted u sizes w c m x i t s g z v2 h = record {
+answered_counted : (u : Setup) (sizes : Sizes) (w : List Step) (c m : ℕ) (x : Answer) → Said (client w) → Told u.callers (client w) → Handled u.callers (client w) → Served sizes w → Counted u.callers sizes w → Seats (client w) → Single u (client w) → MayAnswer u (client w) c m x → Counted u.callers sizes (Does (Answered c m x) ∷ w)
+answered_counted u sizes w c m x i t hd s g z v2 h = record {
   weighed = keep_weighed u.callers w (Does (Answered c m x)) g.weighed (record {
     lasts = λ _ _. refl;
     kepts = λ _ _. refl;
@@ -169,6 +199,7 @@ answered_counted u sizes w c m x i t s g z v2 h = record {
     done = λ d y q e f j. done_call d y q (c == d) refl e f j;
     refused = λ d st e f. refused_at d st (c == d) refl e f;
     given = λ d a e. given_at d a (c == d) refl e;
+    lowered = λ d y e f. lowered_at d y (c == d) refl e f;
   };
   copies = copy_of u.callers sizes w (Answered c m x ∷ client w) g.copies (λ _. refl) (λ _. refl) (λ _. refl) (λ _ _ e. (e, refl));
 } where
@@ -193,11 +224,19 @@ answered_counted u sizes w c m x i t s g z v2 h = record {
       let q = same_name d n e in
       subst (λ (y : ℕ). effects_of u.callers w y n ≡ k) q.0 (subst (λ (y : ℕ). effects_of u.callers w c y ≡ k) (sym h.number_is ∙ q.1) f)
 
+  -- what the moments and the handle give
+  otherwise : Option Answer
+  otherwise = either (pause_given (began_on (client w) c) (moment (client w)) (command (client w) c)) (handle_given (call u.callers (client w) c).busy (command (client w) c) (seen u.callers (client w) c))
+
   done_now : (k : Command) (q : Value) → command (client w) c ≡ Some k → is_changing k ≡ true → given_answer u.callers (client w) c ≡ Some (says.Done q) → effects_of u.callers w c (number (client w) c) ≡ 1
-  done_now k q e f j = by (either_some (call u.callers (client w) c).earned (pause_given (began_on (client w) c) (moment (client w)) (command (client w) c)) (says.Done q) j) where
-    by : ((call u.callers (client w) c).earned ≡ Some (says.Done q)) ⊎ (pause_given (began_on (client w) c) (moment (client w)) (command (client w) c) ≡ Some (says.Done q)) → effects_of u.callers w c (number (client w) c) ≡ 1
+  done_now k q e f j = by (either_some (call u.callers (client w) c).earned otherwise (says.Done q) j) where
+    later : (pause_given (began_on (client w) c) (moment (client w)) (command (client w) c) ≡ Some (says.Done q)) ⊎ (handle_given (call u.callers (client w) c).busy (command (client w) c) (seen u.callers (client w) c) ≡ Some (says.Done q)) → effects_of u.callers w c (number (client w) c) ≡ 1
+    later (inl o) = absurd (pause_done (began_on (client w) c) (moment (client w)) (command (client w) c) (says.Done q) k e f o)
+    later (inr o) = absurd (handle_done (call u.callers (client w) c).busy k (seen u.callers (client w) c) q f (subst (λ (l : Option Command). handle_given (call u.callers (client w) c).busy l (seen u.callers (client w) c) ≡ Some (says.Done q)) e o))
+
+    by : ((call u.callers (client w) c).earned ≡ Some (says.Done q)) ⊎ (otherwise ≡ Some (says.Done q)) → effects_of u.callers w c (number (client w) c) ≡ 1
     by (inl o) = g.earned.done c k q e o f
-    by (inr o) = absurd (pause_done (began_on (client w) c) (moment (client w)) (command (client w) c) (says.Done q) k e f o)
+    by (inr o) = later (either_some (pause_given (began_on (client w) c) (moment (client w)) (command (client w) c)) (handle_given (call u.callers (client w) c).busy (command (client w) c) (seen u.callers (client w) c)) (says.Done q) o)
 
   done_at : (d n : ℕ) (y : Command) (q : Value) (b : Bool) → ((c == d) && (m == n)) ≡ b → asked (client w) d n ≡ Some y → is_changing y ≡ true → (if (c == d) && (m == n) then Some x else answer_to (client w) d n) ≡ Some (says.Done q) → effects_of u.callers w d n ≡ 1
   done_at d n y q true e f j o =
@@ -206,15 +245,29 @@ answered_counted u sizes w c m x i t s g z v2 h = record {
       let a : asked (client w) d n ≡ Some k.0 = subst (λ (l : ℕ). asked (client w) l n ≡ Some k.0) r.0 (subst (λ (l : ℕ). asked (client w) c l ≡ Some k.0) (sym h.number_is ∙ r.1) (t.asked_is c k.0 k.1)) in
       let b : k.0 ≡ y = (let l : Some k.0 ≡ Some y = sym a ∙ f in cc) in
       let p = is_x d n (says.Done q) e o in
-      let cause : given_answer u.callers (client w) c ≡ Some (says.Done q) = subst (λ (l : Answer). HasCause u.callers (client w) c l) p h.cause in
-      to_name d n 1 e (done_now k.0 q k.1 (ap (λ (l : Command). is_changing l) b ∙ j) cause)
+      let cause : HasCause u.callers (client w) c (says.Done q) = subst (λ (l : Answer). HasCause u.callers (client w) c l) p h.cause in
+      to_name d n 1 e (done_now k.0 q k.1 (ap (λ (l : Command). is_changing l) b ∙ j) cause.0)
   done_at d n y q false e f j o = g.weighed.done d n y q f j (rw e at o)
 
   refused_now : (st : Status) → given_answer u.callers (client w) c ≡ Some (says.Refused st) → effects_of u.callers w c (number (client w) c) ≡ 0
-  refused_now st j = by (either_some (call u.callers (client w) c).earned (pause_given (began_on (client w) c) (moment (client w)) (command (client w) c)) (says.Refused st) j) where
-    by : ((call u.callers (client w) c).earned ≡ Some (says.Refused st)) ⊎ (pause_given (began_on (client w) c) (moment (client w)) (command (client w) c) ≡ Some (says.Refused st)) → effects_of u.callers w c (number (client w) c) ≡ 0
+  refused_now st j = by (either_some (call u.callers (client w) c).earned otherwise (says.Refused st) j) where
+    later : (pause_given (began_on (client w) c) (moment (client w)) (command (client w) c) ≡ Some (says.Refused st)) ⊎ (handle_given (call u.callers (client w) c).busy (command (client w) c) (seen u.callers (client w) c) ≡ Some (says.Refused st)) → effects_of u.callers w c (number (client w) c) ≡ 0
+    later (inl o) = absurd (pause_refused (began_on (client w) c) (moment (client w)) (command (client w) c) st o)
+    later (inr o) = absurd (handle_refused (call u.callers (client w) c).busy (command (client w) c) (seen u.callers (client w) c) st o)
+
+    by : ((call u.callers (client w) c).earned ≡ Some (says.Refused st)) ⊎ (otherwise ≡ Some (says.Refused st)) → effects_of u.callers w c (number (client w) c) ≡ 0
     by (inl o) = g.earned.refused c st asked_some o
-    by (inr o) = absurd (pause_refused (began_on (client w) c) (moment (client w)) (command (client w) c) st o)
+    by (inr o) = later (either_some (pause_given (began_on (client w) c) (moment (client w)) (command (client w) c)) (handle_given (call u.callers (client w) c).busy (command (client w) c) (seen u.callers (client w) c)) (says.Refused st) o)
+
+  -- what is not open was asked of no server
+  closed_now : given_answer u.callers (client w) c ≡ Some says.NotOpen → effects_of u.callers w c (number (client w) c) ≡ 0
+  closed_now j = by (call u.callers (client w) c).earned refl where
+    by : (o : Option Answer) → (call u.callers (client w) c).earned ≡ o → effects_of u.callers w c (number (client w) c) ≡ 0
+    by None e = g.earned.idle c asked_some (given_idle u (client w) c says.NotOpen t hd asked_some j) e
+    by (Some a) e =
+        let f : Some a ≡ Some says.NotOpen = sym (ap (λ (o : Option Answer). either o otherwise) e) ∙ j in
+        let q : a ≡ says.NotOpen = cc in
+        absurd (true≢false (sym (g.earned.given c a e) ∙ ap (λ (z : Answer). is_earned z) q))
 
   -- a request that is out and not in doubt did not run
   out_zero : (n : ℕ) (r : Request) (p : SlotUse) → UnreachableCause u.callers (client w) c n → (call u.callers (client w) c).busy ≡ true → IsOn (client w) r p → is_named (command_on u.callers (client w) p.slot) c (number (client w) c) ≡ true → effects_of u.callers w c (number (client w) c) ≡ 0
@@ -247,7 +300,7 @@ answered_counted u sizes w c m x i t s g z v2 h = record {
   unreachable_now : (n : ℕ) → UnreachableCause u.callers (client w) c n → effects_of u.callers w c (number (client w) c) ≡ 0
   unreachable_now n cause = by ((call u.callers (client w) c).busy) refl where
     by : (b : Bool) → (call u.callers (client w) c).busy ≡ b → effects_of u.callers w c (number (client w) c) ≡ 0
-    by false e = g.earned.idle c asked_some e (either_none (call u.callers (client w) c).earned (pause_given (began_on (client w) c) (moment (client w)) (command (client w) c)) cause.ungiven)
+    by false e = g.earned.idle c asked_some e (either_none (call u.callers (client w) c).earned otherwise cause.ungiven)
     by true e =
         let q = t.busy_held c e asked_some in
         let r = some_request (out (client w) (held u.callers (client w) c)) q.0 in
@@ -258,28 +311,32 @@ answered_counted u sizes w c m x i t s g z v2 h = record {
   undone_now (says.Refused st) e f j = refused_now st j
   undone_now (says.Unreachable n) e f j = unreachable_now n j
   undone_now (says.StateLost l) e f j = absurd j
-  undone_now says.NotOpen e f j = absurd j
+  undone_now says.NotOpen e f j = closed_now j
   undone_now a e f j = absurd (true≢false (sym f))
 
   undone_at : (d n : ℕ) (a : Answer) (b : Bool) → ((c == d) && (m == n)) ≡ b → (if (c == d) && (m == n) then Some x else answer_to (client w) d n) ≡ Some a → is_undone a ≡ true → effects_of u.callers w d n ≡ 0
   undone_at d n a true e f j = let q = is_x d n a e f in to_name d n 0 e (undone_now a q j (subst (λ (l : Answer). HasCause u.callers (client w) c l) q h.cause))
   undone_at d n a false e f j = g.weighed.undone d n a (rw e at f) j
 
-  idle_at : (d : ℕ) (b : Bool) → (c == d) ≡ b → (if c == d then None else command (client w) d) ≢ None → (if c == d then answered_call (call u.callers (client w) d) else call u.callers (client w) d).busy ≡ false → (if c == d then answered_call (call u.callers (client w) d) else call u.callers (client w) d).earned ≡ None → effects_of u.callers w d (number (client w) d) ≡ 0
+  idle_at : (d : ℕ) (b : Bool) → (c == d) ≡ b → (if c == d then None else command (client w) d) ≢ None → (if c == d then answered_call (command (client w) d) x (call u.callers (client w) d) else call u.callers (client w) d).busy ≡ false → (if c == d then answered_call (command (client w) d) x (call u.callers (client w) d) else call u.callers (client w) d).earned ≡ None → effects_of u.callers w d (number (client w) d) ≡ 0
   idle_at d true e f j o = absurd (f (rw e refl))
   idle_at d false e f j o = g.earned.idle d (rw e at f) (rw e at j) (rw e at o)
 
-  done_call : (d : ℕ) (y : Command) (q : Value) (b : Bool) → (c == d) ≡ b → (if c == d then None else command (client w) d) ≡ Some y → (if c == d then answered_call (call u.callers (client w) d) else call u.callers (client w) d).earned ≡ Some (says.Done q) → is_changing y ≡ true → effects_of u.callers w d (number (client w) d) ≡ 1
+  done_call : (d : ℕ) (y : Command) (q : Value) (b : Bool) → (c == d) ≡ b → (if c == d then None else command (client w) d) ≡ Some y → (if c == d then answered_call (command (client w) d) x (call u.callers (client w) d) else call u.callers (client w) d).earned ≡ Some (says.Done q) → is_changing y ≡ true → effects_of u.callers w d (number (client w) d) ≡ 1
   done_call d y q true e f j o = absurd (let l : None ≡ Some y = (rw e at f) in cc)
   done_call d y q false e f j o = g.earned.done d y q (rw e at f) (rw e at j) o
 
-  refused_at : (d : ℕ) (st : Status) (b : Bool) → (c == d) ≡ b → (if c == d then None else command (client w) d) ≢ None → (if c == d then answered_call (call u.callers (client w) d) else call u.callers (client w) d).earned ≡ Some (says.Refused st) → effects_of u.callers w d (number (client w) d) ≡ 0
+  refused_at : (d : ℕ) (st : Status) (b : Bool) → (c == d) ≡ b → (if c == d then None else command (client w) d) ≢ None → (if c == d then answered_call (command (client w) d) x (call u.callers (client w) d) else call u.callers (client w) d).earned ≡ Some (says.Refused st) → effects_of u.callers w d (number (client w) d) ≡ 0
   refused_at d st true e f j = absurd (f (rw e refl))
   refused_at d st false e f j = g.earned.refused d st (rw e at f) (rw e at j)
 
-  given_at : (d : ℕ) (a : Answer) (b : Bool) → (c == d) ≡ b → (if c == d then answered_call (call u.callers (client w) d) else call u.callers (client w) d).earned ≡ Some a → is_given a ≡ true
+  given_at : (d : ℕ) (a : Answer) (b : Bool) → (c == d) ≡ b → (if c == d then answered_call (command (client w) d) x (call u.callers (client w) d) else call u.callers (client w) d).earned ≡ Some a → is_earned a ≡ true
   given_at d a true e f = absurd (let l : None ≡ Some a = (rw e at f) in cc)
   given_at d a false e f = g.earned.given d a (rw e at f)
+
+  lowered_at : (d : ℕ) (y : Command) (b : Bool) → (c == d) ≡ b → (if c == d then None else command (client w) d) ≡ Some y → (if c == d then answered_call (command (client w) d) x (call u.callers (client w) d) else call u.callers (client w) d).way.lowered ≡ true → is_changing y ≡ false
+  lowered_at d y true e f j = absurd (let l : None ≡ Some y = (rw e at f) in cc)
+  lowered_at d y false e f j = g.earned.lowered d y (rw e at f) (rw e at j)
 
 -- ---- a new turn runs
 
@@ -296,7 +353,7 @@ runs_effects n w k r q xs c m = by (acts r.plan xs) refl where
 runs_counted : (u : Setup) (sizes : Sizes) (w : List Step) (k : ℕ) (r : Request) (q : Sequenced) (xs : List Res) → Seats (client w) → Single u (client w) → Said (client w) → Told u.callers (client w) → Settled u.callers (client w) → Served sizes w → Counted u.callers sizes w → Allowed sizes w (Runs k r q xs) → Counted u.callers sizes (Runs k r q xs ∷ w)
 runs_counted u sizes w k r q xs z s i t e d g (b, (p, m)) = record {
   weighed = record {
-    acts_is = λ x a y c st o f h j l. acts_at x a y c st o f h j l (p.slot == a.slot) refl;
+    acts_is = λ x a y o f h j. acts_at x a y o f h j (p.slot == a.slot) refl;
     before = λ x a c n o f h. before_at x a c n o f h (p.slot == a.slot) refl;
     after = λ x a c n y o f h j. after_at x a c n y o f h j (p.slot == a.slot) refl;
     most = λ c n. most_at c n (acts r.plan xs && is_named (command_of u.callers (client w) k) c n) refl;
@@ -310,6 +367,7 @@ runs_counted u sizes w k r q xs z s i t e d g (b, (p, m)) = record {
     done = λ c y x f h j. same c (number (client w) c) (λ a l. busy_no c (some_not f) (t.earned_idle c (earned_not h)) l) ∙ g.earned.done c y x f h j;
     refused = λ c st f h. same c (number (client w) c) (λ a l. busy_no c f (t.earned_idle c (earned_not h)) l) ∙ g.earned.refused c st f h;
     given = g.earned.given;
+    lowered = g.earned.lowered;
   };
   copies = g.copies;
 } where
@@ -387,7 +445,7 @@ runs_counted u sizes w k r q xs z s i t e d g (b, (p, m)) = record {
   undone_no c x (says.Refused st) f h j l = answered_no c x (says.Refused st) f refl l
   undone_no c x (says.Unreachable y) f h j l = unreachable_no c x y f j l
   undone_no c x (says.StateLost y) f h j l = true≢false (sym (e.possible c x (says.StateLost y) f))
-  undone_no c x says.NotOpen f h j l = true≢false (sym (e.possible c x says.NotOpen f))
+  undone_no c x says.NotOpen f h j l = answered_no c x says.NotOpen f refl l
   undone_no c x a f h j l = true≢false (sym h)
 
   slot_at : (a : SlotUse) → (p.slot == a.slot) ≡ true → p.slot ≡ a.slot
@@ -419,18 +477,15 @@ runs_counted u sizes w k r q xs z s i t e d g (b, (p, m)) = record {
       let j = t.one_slot p.slot a.slot c x out_some (λ v2. (let o2 : Some y ≡ None = sym o.is_out ∙ v2 in absurd (cc))) l h in
       absurd (grind (arith, nat_tests, j, f))
 
-  acts_at : (x : Request) (a : SlotUse) (y : ReplyBody) (c : Bool) (st : Status) → IsOn (client w) x a → last (Runs k r q xs ∷ w) a.sid a.slot ≡ used (client w) a.slot → kept (Runs k r q xs ∷ w) a.sid a.slot ≡ Some y → is_dir_change x.plan ≡ true → body_verdict x c y ≡ v.Ran st → (f : Bool) → (p.slot == a.slot) ≡ f → acts_in x.plan y ≡ is_ok st
-  acts_at x a y c st o f h j l true o2 =
+  acts_at : (x : Request) (a : SlotUse) (y : ReplyBody) → IsOn (client w) x a → last (Runs k r q xs ∷ w) a.sid a.slot ≡ used (client w) a.slot → kept (Runs k r q xs ∷ w) a.sid a.slot ≡ Some y → is_change x.plan ≡ true → (f : Bool) → (p.slot == a.slot) ≡ f → acts_in x.plan y ≡ ends_ok y
+  acts_at x a y o f h j true o2 =
       let e2 = is_run x a o o2 in
       let h2 : kept (Runs k r q xs ∷ w) p.sid p.slot ≡ Some y = subst (λ (a2 : SlotUse). kept (Runs k r q xs ∷ w) a2.sid a2.slot ≡ Some y) e2.1 h in
       let y2 : (ran_reply r q xs).body ≡ y = (let i2 : Some (ran_reply r q xs).body ≡ Some y = sym kept_here ∙ h2 in cc) in
-      let l2 : body_verdict r c (ran_reply r q xs).body ≡ v.Ran st = subst (λ (b2 : ReplyBody). body_verdict r c b2 ≡ v.Ran st) (sym y2) (subst (λ (x2 : Request). body_verdict x2 c y ≡ v.Ran st) e2.0 l) in
-      let s2 : v.Ran (end_status ok xs) ≡ v.Ran st = sym (run_verdict r c q xs m.answer) ∙ l2 in
-      let st2 : end_status ok xs ≡ st = cc in
-      let d2 : is_dir_change r.plan ≡ true = subst (λ (x2 : Request). is_dir_change x2.plan ≡ true) e2.0 j in
-      let r2 : acts r.plan xs ≡ is_ok st = run_acts r p q xs m.slot m.answer d2 ∙ ap (λ (s3 : Status). is_ok s3) st2 in
-      subst (λ (x2 : Request). acts_in x2.plan y ≡ is_ok st) (sym e2.0) (subst (λ (b2 : ReplyBody). acts_in r.plan b2 ≡ is_ok st) y2 r2)
-  acts_at x a y c st o f h j l false o2 = g.weighed.acts_is x a y c st o (sym (last_there a o2) ∙ f) (sym (kept_there a o2) ∙ h) j l
+      let d2 : is_change r.plan ≡ true = subst (λ (x2 : Request). is_change x2.plan ≡ true) e2.0 j in
+      let r2 : acts_in r.plan (ran_reply r q xs).body ≡ ends_ok (ran_reply r q xs).body = run_acts r p q xs m.slot m.answer d2 in
+      subst (λ (x2 : Request). acts_in x2.plan y ≡ ends_ok y) (sym e2.0) (subst (λ (b2 : ReplyBody). acts_in r.plan b2 ≡ ends_ok b2) y2 r2)
+  acts_at x a y o f h j false o2 = g.weighed.acts_is x a y o (sym (last_there a o2) ∙ f) (sym (kept_there a o2) ∙ h) j
 
   before_at : (x : Request) (a : SlotUse) (c y : ℕ) → IsOn (client w) x a → is_named (command_on u.callers (client w) a.slot) c y ≡ true → last (Runs k r q xs ∷ w) a.sid a.slot ≢ used (client w) a.slot → (f : Bool) → (p.slot == a.slot) ≡ f → effects_of u.callers (Runs k r q xs ∷ w) c y ≡ 0
   before_at x a c y o f h true j = absurd (h (subst (λ (a2 : SlotUse). last (Runs k r q xs ∷ w) a2.sid a2.slot ≡ used (client w) a2.slot) (sym (is_run x a o j).1) last_here))
@@ -481,30 +536,30 @@ put_counted u sizes w c m r z s i t lv d g o = by o.form where
   by (inr (inr (inl a))) = bare_counted u.callers sizes w c m r g a.no_slot (bare_owner u.callers (client w) r (new_class u (client w) r a.why))
   by (inr (inr (inr a))) = new_counted u sizes w c m r z s i lv d g a
 
-does_counted : (u : Setup) (sizes : Sizes) (w : List Step) (e : Event) → Seats (client w) → Single u (client w) → Said (client w) → Told u.callers (client w) → Settled u.callers (client w) → Lives u w → Served sizes w → Counted u.callers sizes w → May u (client w) e → IsNoReply e → Counted u.callers sizes (Does e ∷ w)
-does_counted u sizes w (Began c m k x) z s i t q lv d g h l = began_counted u sizes w c m k x q g h
-does_counted u sizes w (Put c m r) z s i t q lv d g h l = put_counted u sizes w c m r z s i t lv d g (put_of u (client w) h.0 r h.1.is_due)
-does_counted u sizes w (Took c m y) z s i t q lv d g h l = absurd l
-does_counted u sizes w (CbTook c m y) z s i t q lv d g h l = absurd l
-does_counted u sizes w (CbPut c m y) z s i t q lv d g h l = absurd h
-does_counted u sizes w (Dialed c) z s i t q lv d g h l = quiet_counted u.callers sizes w (Does (Dialed c)) g
+does_counted : (u : Setup) (sizes : Sizes) (w : List Step) (e : Event) → Seats (client w) → Single u (client w) → Said (client w) → Told u.callers (client w) → Handled u.callers (client w) → Settled u.callers (client w) → Lives u w → Served sizes w → Counted u.callers sizes w → May u (client w) e → IsNoReply e → Counted u.callers sizes (Does e ∷ w)
+does_counted u sizes w (Began c m k x) z s i t hd q lv d g h l = began_counted u sizes w c m k x q g h
+does_counted u sizes w (Put c m r) z s i t hd q lv d g h l = put_counted u sizes w c m r z s i t lv d g (put_of u (client w) h.0 r h.1.is_due)
+does_counted u sizes w (Took c m y) z s i t hd q lv d g h l = absurd l
+does_counted u sizes w (CbTook c m y) z s i t hd q lv d g h l = absurd l
+does_counted u sizes w (CbPut c m y) z s i t hd q lv d g h l = absurd h
+does_counted u sizes w (Dialed c) z s i t hd q lv d g h l = quiet_counted u.callers sizes w (Does (Dialed c)) g
     (record { lasts = λ _ _. refl; kepts = λ _ _. refl; effs = refl; outs = λ _ _ e. (e, refl); names = λ _. refl; numbers = λ x. at_most (number (client w) x); done = g.weighed.done; undone = g.weighed.undone })
     (record { effs = refl; calls = λ _. refl; commands = λ _. refl; numbers = λ _. refl })
     (copy_of u.callers sizes w (Dialed c ∷ client w) g.copies (λ _. refl) (λ _. refl) (λ _. refl) (λ _ _ e. (e, refl)))
-does_counted u sizes w DialFailed z s i t q lv d g h l = quiet_counted u.callers sizes w (Does DialFailed) g
+does_counted u sizes w DialFailed z s i t hd q lv d g h l = quiet_counted u.callers sizes w (Does DialFailed) g
     (record { lasts = λ _ _. refl; kepts = λ _ _. refl; effs = refl; outs = λ _ _ e. (e, refl); names = λ _. refl; numbers = λ x. at_most (number (client w) x); done = g.weighed.done; undone = g.weighed.undone })
     (record { effs = refl; calls = λ _. refl; commands = λ _. refl; numbers = λ _. refl })
     (copy_of u.callers sizes w (DialFailed ∷ client w) g.copies (λ _. refl) (λ _. refl) (λ _. refl) (λ _ _ e. (e, refl)))
-does_counted u sizes w (Broke c x) z s i t q lv d g h l = quiet_counted u.callers sizes w (Does (Broke c x)) g
+does_counted u sizes w (Broke c x) z s i t hd q lv d g h l = quiet_counted u.callers sizes w (Does (Broke c x)) g
     (record { lasts = λ _ _. refl; kepts = λ _ _. refl; effs = refl; outs = λ _ _ e. (e, refl); names = λ _. refl; numbers = λ x. at_most (number (client w) x); done = g.weighed.done; undone = g.weighed.undone })
     (record { effs = refl; calls = λ _. refl; commands = λ _. refl; numbers = λ _. refl })
     (copy_of u.callers sizes w (Broke c x ∷ client w) g.copies (λ _. refl) (λ _. refl) (λ _. refl) (λ _ _ e. (e, refl)))
-does_counted u sizes w (Ticked x) z s i t q lv d g h l = quiet_counted u.callers sizes w (Does (Ticked x)) g
+does_counted u sizes w (Ticked x) z s i t hd q lv d g h l = quiet_counted u.callers sizes w (Does (Ticked x)) g
     (record { lasts = λ _ _. refl; kepts = λ _ _. refl; effs = refl; outs = λ _ _ e. (e, refl); names = λ _. refl; numbers = λ x. at_most (number (client w) x); done = g.weighed.done; undone = g.weighed.undone })
     (record { effs = refl; calls = λ _. refl; commands = λ _. refl; numbers = λ _. refl })
     (copy_of u.callers sizes w (Ticked x ∷ client w) g.copies (λ _. refl) (λ _. refl) (λ _. refl) (λ _ _ e. (e, refl)))
-does_counted u sizes w (Answered c m x) z s i t q lv d g h l = answered_counted u sizes w c m x i t d g z s h
-does_counted u sizes w Quit z s i t q lv d g h l = quiet_counted u.callers sizes w (Does Quit) g
+does_counted u sizes w (Answered c m x) z s i t hd q lv d g h l = answered_counted u sizes w c m x i t hd d g z s h
+does_counted u sizes w Quit z s i t hd q lv d g h l = quiet_counted u.callers sizes w (Does Quit) g
     (record { lasts = λ _ _. refl; kepts = λ _ _. refl; effs = refl; outs = λ _ _ e. (e, refl); names = λ _. refl; numbers = λ x. at_most (number (client w) x); done = g.weighed.done; undone = g.weighed.undone })
     (record { effs = refl; calls = λ _. refl; commands = λ _. refl; numbers = λ _. refl })
     (copy_of u.callers sizes w (Quit ∷ client w) g.copies (λ _. refl) (λ _. refl) (λ _. refl) (λ _ _ e. (e, refl)))
@@ -512,7 +567,7 @@ does_counted u sizes w Quit z s i t q lv d g h l = quiet_counted u.callers sizes
 none_counted : (n : ℕ) (sizes : Sizes) → Counted n sizes []
 none_counted n sizes = record {
   weighed = record {
-    acts_is = λ r p b t s o e f d h. absurd (let i = o.is_out in cc);
+    acts_is = λ r p b o e f d. absurd (let i = o.is_out in cc);
     before = λ r p c m o e f. refl;
     after = λ r p c m b o e f h. absurd (let i = o.is_out in cc);
     most = λ c m. zero_most;
@@ -521,7 +576,7 @@ none_counted n sizes = record {
     undone = λ c m a e f. refl;
     own = λ k d l. absurd (omega arith);
   };
-  earned = record { idle = λ c e f h. refl; done = λ c k x e f h. absurd (cc); refused = λ c s e f. refl; given = λ c a e. absurd (cc) };
+  earned = record { idle = λ c e f h. refl; done = λ c k x e f h. absurd (cc); refused = λ c s e f. refl; given = λ c a e. absurd (cc); lowered = λ c k e f. absurd (cc) };
   copies = λ k r q p a e. absurd (let i = a.put in cc);
 } where
   zero_most : 0 ≤ 1
@@ -529,15 +584,15 @@ none_counted n sizes = record {
 
 pub counted : (u : Setup) (sizes : Sizes) (w : List Step) → LegalBy sizes w → Kept u (client w) → Counted u.callers sizes w
 counted u sizes [] l k = none_counted u.callers sizes
-counted u sizes (Does e ∷ w) l k = does_counted u sizes w e (seats u (client w) k.0) (single u (client w) k.0) (said u (client w) k.0) (told u (client w) k.0) (settled u (client w) k.0) (lives u sizes w l.0 k.0) (served u sizes w l.0 k.0) (counted u sizes w l.0 k.0) k.1 l.1
+counted u sizes (Does e ∷ w) l k = does_counted u sizes w e (seats u (client w) k.0) (single u (client w) k.0) (said u (client w) k.0) (told u (client w) k.0) (handled u (client w) k.0) (settled u (client w) k.0) (lives u sizes w l.0 k.0) (served u sizes w l.0 k.0) (counted u sizes w l.0 k.0) k.1 l.1
 counted u sizes (Takes j c m y ∷ w) l k =
     let z = seats u (client w) k.0 in
     let v2 = known u (client w) k.0 in
     taken_counted u sizes w j c m y k.1.0 k.0 z (single u (client w) k.0) (told u (client w) k.0) (lives u sizes w l.0 k.0) (served u sizes w l.0 k.0) (counted u sizes w l.0 k.0) l.1 (taken_is w j c y k.1.0 v2 (net u sizes w l.0 k.0) l.1 (takes_is (client w) c m y k.1.0 z v2 k.1.1))
 counted u sizes (Runs j r q xs ∷ w) l k = runs_counted u sizes w j r q xs (seats u (client w) k) (single u (client w) k) (said u (client w) k) (told u (client w) k) (settled u (client w) k) (served u sizes w l.0 k) (counted u sizes w l.0 k) l.1
-counted u sizes (Repeats j r y ∷ w) l k = let g = counted u sizes w l.0 k in record { weighed = record { acts_is = g.weighed.acts_is; before = g.weighed.before; after = g.weighed.after; most = g.weighed.most; later = g.weighed.later; done = g.weighed.done; undone = g.weighed.undone; own = g.weighed.own }; earned = record { idle = g.earned.idle; done = g.earned.done; refused = g.earned.refused; given = g.earned.given }; copies = g.copies }
-counted u sizes (Refuses j r s ∷ w) l k = let g = counted u sizes w l.0 k in record { weighed = record { acts_is = g.weighed.acts_is; before = g.weighed.before; after = g.weighed.after; most = g.weighed.most; later = g.weighed.later; done = g.weighed.done; undone = g.weighed.undone; own = g.weighed.own }; earned = record { idle = g.earned.idle; done = g.earned.done; refused = g.earned.refused; given = g.earned.given }; copies = g.copies }
-counted u sizes (Names j r i ∷ w) l k = let g = counted u sizes w l.0 k in record { weighed = record { acts_is = g.weighed.acts_is; before = g.weighed.before; after = g.weighed.after; most = g.weighed.most; later = g.weighed.later; done = g.weighed.done; undone = g.weighed.undone; own = g.weighed.own }; earned = record { idle = g.earned.idle; done = g.earned.done; refused = g.earned.refused; given = g.earned.given }; copies = g.copies }
-counted u sizes (Makes j r m ∷ w) l k = let g = counted u sizes w l.0 k in record { weighed = record { acts_is = g.weighed.acts_is; before = g.weighed.before; after = g.weighed.after; most = g.weighed.most; later = g.weighed.later; done = g.weighed.done; undone = g.weighed.undone; own = g.weighed.own }; earned = record { idle = g.earned.idle; done = g.earned.done; refused = g.earned.refused; given = g.earned.given }; copies = g.copies }
-counted u sizes (Binds j r b ∷ w) l k = let g = counted u sizes w l.0 k in record { weighed = record { acts_is = g.weighed.acts_is; before = g.weighed.before; after = g.weighed.after; most = g.weighed.most; later = g.weighed.later; done = g.weighed.done; undone = g.weighed.undone; own = g.weighed.own }; earned = record { idle = g.earned.idle; done = g.earned.done; refused = g.earned.refused; given = g.earned.given }; copies = g.copies }
-counted u sizes (Ends j r ∷ w) l k = let g = counted u sizes w l.0 k in record { weighed = record { acts_is = g.weighed.acts_is; before = g.weighed.before; after = g.weighed.after; most = g.weighed.most; later = g.weighed.later; done = g.weighed.done; undone = g.weighed.undone; own = g.weighed.own }; earned = record { idle = g.earned.idle; done = g.earned.done; refused = g.earned.refused; given = g.earned.given }; copies = g.copies }
+counted u sizes (Repeats j r y ∷ w) l k = let g = counted u sizes w l.0 k in record { weighed = record { acts_is = g.weighed.acts_is; before = g.weighed.before; after = g.weighed.after; most = g.weighed.most; later = g.weighed.later; done = g.weighed.done; undone = g.weighed.undone; own = g.weighed.own }; earned = record { idle = g.earned.idle; done = g.earned.done; refused = g.earned.refused; given = g.earned.given; lowered = g.earned.lowered }; copies = g.copies }
+counted u sizes (Refuses j r s ∷ w) l k = let g = counted u sizes w l.0 k in record { weighed = record { acts_is = g.weighed.acts_is; before = g.weighed.before; after = g.weighed.after; most = g.weighed.most; later = g.weighed.later; done = g.weighed.done; undone = g.weighed.undone; own = g.weighed.own }; earned = record { idle = g.earned.idle; done = g.earned.done; refused = g.earned.refused; given = g.earned.given; lowered = g.earned.lowered }; copies = g.copies }
+counted u sizes (Names j r i ∷ w) l k = let g = counted u sizes w l.0 k in record { weighed = record { acts_is = g.weighed.acts_is; before = g.weighed.before; after = g.weighed.after; most = g.weighed.most; later = g.weighed.later; done = g.weighed.done; undone = g.weighed.undone; own = g.weighed.own }; earned = record { idle = g.earned.idle; done = g.earned.done; refused = g.earned.refused; given = g.earned.given; lowered = g.earned.lowered }; copies = g.copies }
+counted u sizes (Makes j r m ∷ w) l k = let g = counted u sizes w l.0 k in record { weighed = record { acts_is = g.weighed.acts_is; before = g.weighed.before; after = g.weighed.after; most = g.weighed.most; later = g.weighed.later; done = g.weighed.done; undone = g.weighed.undone; own = g.weighed.own }; earned = record { idle = g.earned.idle; done = g.earned.done; refused = g.earned.refused; given = g.earned.given; lowered = g.earned.lowered }; copies = g.copies }
+counted u sizes (Binds j r b ∷ w) l k = let g = counted u sizes w l.0 k in record { weighed = record { acts_is = g.weighed.acts_is; before = g.weighed.before; after = g.weighed.after; most = g.weighed.most; later = g.weighed.later; done = g.weighed.done; undone = g.weighed.undone; own = g.weighed.own }; earned = record { idle = g.earned.idle; done = g.earned.done; refused = g.earned.refused; given = g.earned.given; lowered = g.earned.lowered }; copies = g.copies }
+counted u sizes (Ends j r ∷ w) l k = let g = counted u sizes w l.0 k in record { weighed = record { acts_is = g.weighed.acts_is; before = g.weighed.before; after = g.weighed.after; most = g.weighed.most; later = g.weighed.later; done = g.weighed.done; undone = g.weighed.undone; own = g.weighed.own }; earned = record { idle = g.earned.idle; done = g.earned.done; refused = g.earned.refused; given = g.earned.given; lowered = g.earned.lowered }; copies = g.copies }

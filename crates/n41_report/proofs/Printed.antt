@@ -35,15 +35,15 @@ text_more breach js names ls i d out new whole l h g =
 
 -- ---- the text of a run
 
-ending : (js : List Event) (o : Option Answer) → ending_text (breach_at js) o ≡ outcome_text o js
-ending js None = refl
-ending js (Some a) = refl
+ending : (n : ℕ) (js : List Event) (o : Option Answer) → ending_text (breach_at n js) o ≡ outcome_text o n js
+ending n js None = refl
+ending n js (Some a) = refl
 
-pub same_text : (js : List Event) (k : ℕ) (ls : List Line) → commands_text (breach_at js) js k ls ≡ lines_from js k ls
-same_text js k [] = refl
-same_text js k (l ∷ ls) =
-    ap (λ (xs : List ℕ). line_text k l.name xs ++ commands_text (breach_at js) js (suc k) ls) (ending js (answer_to js l.caller l.number))
-    ∙ ap (λ (ys : List ℕ). line_text k l.name (outcome_text (answer_to js l.caller l.number) js) ++ ys) (same_text js (suc k) ls)
+pub same_text : (n : ℕ) (js : List Event) (k : ℕ) (ls : List Line) → commands_text (breach_at n js) js k ls ≡ lines_from n js k ls
+same_text n js k [] = refl
+same_text n js k (l ∷ ls) =
+    ap (λ (xs : List ℕ). line_text k l.name xs ++ commands_text (breach_at n js) js (suc k) ls) (ending n js (answer_to js l.caller l.number))
+    ∙ ap (λ (ys : List ℕ). line_text k l.name (outcome_text (answer_to js l.caller l.number) n js) ++ ys) (same_text n js (suc k) ls)
 
 -- ---- a turn of the loop
 

@@ -1,5 +1,5 @@
 -- What the client promises of a run.
-use Rattle.std.specs.Prelude.{◌≡◌, ℕ, ◌≤◌, Bool, true, false, ◌&&◌, List, Option, Some, None, All, IsSome}
+use Rattle.std.specs.Prelude.{◌≡◌, ℕ, ◌≤◌, Bool, true, false, ◌&&◌, List, ◌∷◌, Option, Some, None, All, IsSome}
 use Rattle.n41_types.specs.declared.commands.Answer.{Answer}
 use Rattle.n41_types.specs.declared.commands.Answer.TheVariants as says
 use Rattle.n41_types.specs.declared.commands.Command.{Command}
@@ -7,9 +7,13 @@ use Rattle.n41_types.specs.declared.commands.Value.{Value}
 use Rattle.n41_types.specs.declared.plans.Class.TheVariants.{Changing}
 use Rattle.n41_types.specs.declared.plans.Request.{Request}
 use Rattle.n41_types.specs.Plans.{class_of}
+use Rattle.n41_results.specs.declared.replies.Reply.{Reply}
 use Rattle.n41_journal.specs.declared.events.Event.{Event}
+use Rattle.n41_model.specs.Sessions.{plan_of}
+use Rattle.n41_runs.specs.OpenRules.{tells_loss}
+use Rattle.n41_runs.specs.declared.steps.Step.TheVariants.{Takes}
 use Rattle.n41_model.specs.declared.words.Setup.{Setup}
-use Rattle.n41_calls.specs.Answers.{round_limit}
+use Rattle.n41_calls.specs.Answers.{round_limit, misleads}
 use Rattle.n41_calls.specs.Kept.{Kept}
 use Rattle.n41_calls.specs.OneOut.{OneOut}
 use Rattle.n41_model.specs.Requests.{out, doubt, rounds}
@@ -67,6 +71,19 @@ IsOnRecord w (Some s) = is_on_record (open_record w (opener s) (file s)) s.handl
 
 abbrev pub StateKept : ℕ → List Step → Type 0
 StateKept n w = (h : ℕ) → is_marked (open_of (files n (client w)).opens.handles h) ≡ false → IsOnRecord w (seen_at (files n (client w)).opens (Some h))
+
+-- each legal run whose client keeps its rules does
+abbrev pub RunsKeepState : Type 0
+RunsKeepState = (u : Setup) (w : List Step) → Legal w → Kept u (client w) → StateKept u.callers w
+
+-- A reply that is taken misleads the client about no open record, and tells of none that it is lost.
+pub record TellsTrue (n : ℕ) (js : List Event) (y : Reply) : Type 0 where
+  pub leads : misleads n js y ≡ false
+  pub has : tells_loss (plan_of js y) y.body ≡ false
+
+-- each reply of a legal run whose client keeps its rules does
+abbrev pub RunsTellTrue : Type 0
+RunsTellTrue = (u : Setup) (w : List Step) (k c p : ℕ) (y : Reply) → Legal (Takes k c p y ∷ w) → Kept u (client (Takes k c p y ∷ w)) → TellsTrue u.callers (client w) y
 
 pub record Good (u : Setup) (w : List Step) : Type 0 where
   pub one_out : OneOut (client w)

@@ -7,9 +7,11 @@ use Rattle.n41_types.specs.declared.plans.Plan.{Plan}
 use Rattle.n41_types.specs.declared.plans.Plan.TheVariants as plan
 use Rattle.n41_types.specs.declared.spans.Mode.{Mode}
 use Rattle.n41_types.specs.declared.statuses.Status.{Status}
+use Rattle.n41_results.specs.declared.replies.ReplyBody.{ReplyBody}
+use Rattle.n41_results.specs.declared.replies.ReplyBody.TheVariants.{Results}
 use Rattle.n41_results.specs.declared.results.Res.{Res}
 use Rattle.n41_results.specs.Results.{ok}
-use Rattle.n41_model.specs.Replies.{is_loss}
+use Rattle.n41_model.specs.Replies.{is_loss, names_state}
 use Rattle.n41_calls.specs.Values.{reached}
 use Rattle.n41_calls.specs.Files.{open_stateid, shrunk_stateid}
 use Rattle.n41_runs.specs.Records.{OpenRecord, open_record, named_record, was_given, allows, reads, writes}
@@ -64,6 +66,15 @@ IsBeyond i (Some x) s = (s.0 ≡ 10025) × (x.seqid < i.seqid)
 
 abbrev pub TellsLoss : Option OpenRecord → Stateid → Status → Type 0
 TellsLoss x i s = is_loss s ≡ true → IsBeyond i x s
+
+-- a status tells that the open record is lost that a plan names
+abbrev pub loses : Plan → Status → Bool
+loses p s = names_state p && is_loss s
+
+-- the reply tells so
+abbrev pub tells_loss : Plan → ReplyBody → Bool
+tells_loss p (Results s xs) = loses p s
+tells_loss p b = false
 
 -- what the results of a request tell of open records
 abbrev pub KeepsRecords : List Step → Plan → List Res → Type 0

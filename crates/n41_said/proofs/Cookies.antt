@@ -1,7 +1,7 @@
 -- The last entry tells where a directory is read on.
 use Rattle.std.proofs.Common.{◌≡◌, ◌-◌, suc, arith, List, [], ◌∷◌, length, Option, Some, None, ℕ, refl, slice_get}
 use Rattle.n41_results.specs.declared.results.Entry.{Entry}
-use Rattle.n41_calls.specs.Calls.{cookie_after}
+use Rattle.n41_calls.specs.Values.{cookie_after}
 
 abbrev pub cookie_at : ℕ → Option Entry → ℕ
 cookie_at n None = n

@@ -1,3 +1,2 @@
-pub mod Handles
 pub mod Cookies
-pub mod Stays
+pub mod Told

@@ -1,2 +1,2 @@
-pub mod Handles
 pub mod Listings
+pub mod Steps

@@ -1,9 +1,12 @@
-ghost use Rattle.std.specs.Prelude.{◌≡◌};
-ghost use Rattle.n41_calls.specs.Calls.{stat_value, value_of_attrs, done_with, is_again, is_put_off_by, attempts_after};
+ghost use Rattle.std.specs.Prelude.{◌≡◌, IfOk, option_copied};
+ghost use Rattle.n41_calls.specs.Values.{stat_value, value_of_attrs, got_value, wrote_value, opened_value, closed_value, done_with, is_again, is_outdated, refused};
+ghost use Rattle.n41_calls.specs.Calls.{is_put_off_by, attempts_after};
+ghost use Rattle.n41_said.specs.Steps.{got_in};
 
+use n41_files::is_close;
 use n41_model::Verdict;
-use n41_results::Res;
-use n41_types::{Answer, Attrs, Status, Value};
+use n41_results::{ReplyBody, Res};
+use n41_types::{Answer, Attrs, Command, NoMemory, Status, Value};
 
 /// What a stat gives, where its type and its size were told.
 fn value_of_attrs(attrs: &Attrs) -> Option<Value>
@@ -30,6 +33,56 @@ pub(crate) fn stat_value(list: &[Res]) -> Option<Value>
     }
 }
 
+/// The bytes of the one READ of a request.
+fn got_value(list: &[Res]) -> Result<Option<Value>, NoMemory>
+    ensures { IfOk result (λ value. value ≡ got_value list.now) }
+{
+    match list {
+        [_, _, Res::Read(Ok(content))] => Ok(Some(Value::Got {
+            bytes: content.bytes.clone()?,
+            last: content.eof,
+        })),
+        _ => Ok(None),
+    }
+}
+
+/// The bytes of the one READ of a reply.
+pub(crate) fn got_in(body: &ReplyBody) -> Result<Option<Value>, NoMemory>
+    ensures { IfOk result (λ value. value ≡ got_in body.now) }
+{
+    match body {
+        ReplyBody::Results { list, .. } => got_value(list.as_slice()),
+        _ => Ok(None),
+    }
+}
+
+/// The count of the one WRITE of a request.
+pub(crate) fn wrote_value(list: &[Res]) -> Option<Value>
+    ensures { result ≡ wrote_value list.now }
+{
+    match list {
+        [_, _, Res::Write(Ok(written))] => Some(Value::Wrote(written.count)),
+        _ => None,
+    }
+}
+
+/// An open by a filehandle opens for a command that opens; for a close it only tells the seqid.
+pub(crate) fn opened_value(command: Option<&Command>) -> Option<Value>
+    ensures { result ≡ opened_value (option_copied command.entry) }
+{
+    match command {
+        Some(Command::OpenFile { .. }) => Some(Value::Opened),
+        _ => None,
+    }
+}
+
+/// A close that was alone with its record by the time of its downgrade still has to close it.
+pub(crate) fn closed_value(alone: bool) -> Option<Value>
+    ensures { result ≡ closed_value alone }
+{
+    if alone { None } else { Some(Value::Closed) }
+}
+
 /// The answer of a command that is done with this value.
 pub(crate) fn done_with(value: Option<Value>) -> Option<Answer>
     ensures { result ≡ done_with value }
@@ -45,6 +98,24 @@ pub(crate) fn is_again(status: Status, attempts: u64) -> bool
     ensures { result ≡ is_again status attempts }
 {
     (status == Status::DELAY || status == Status::GRACE) && attempts < 64
+}
+
+/// Whether the status leads a close to think again (OLD_STATEID; RFC 8881, section 8.2.2).
+pub(crate) fn is_outdated(command: Option<&Command>, status: Status) -> bool
+    ensures { result ≡ is_outdated (option_copied command.entry) status }
+{
+    is_close(command) && status == Status::OLD_STATEID
+}
+
+/// What a refusal gives: a close whose OPEN_DOWNGRADE was answered OK is done by that.
+pub(crate) fn refused(lowered: bool, status: Status) -> Answer
+    ensures { result ≡ refused lowered status }
+{
+    if lowered {
+        Answer::Done(Value::Closed)
+    } else {
+        Answer::Refused(status)
+    }
 }
 
 /// Whether a verdict leads to a new attempt, two seconds later.

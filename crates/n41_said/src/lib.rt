@@ -19,5 +19,5 @@ pub use phases::{
     broke_phase, dialed_phase, is_step_of, is_step_said, puts_off, reply_phase, worked,
 };
 pub use said::{Said, has, held_with, holds, is_out};
-pub use steps::{Brought, took_way};
+pub use steps::{Brought, Hour, took_way};
 pub use ways::{ahead, last_of, walk_most, way_of};

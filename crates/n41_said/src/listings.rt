@@ -1,5 +1,6 @@
 ghost use Rattle.std.specs.Prelude.{◌≡◌, ◌≤◌, option_copied, option_map, length, IfOk};
-ghost use Rattle.n41_calls.specs.Calls.{list_size, nothing_listed, listed_of, listing_of, listing_in, names_of, cookie_after, ends_with, ends_by, list_value, listed_after};
+ghost use Rattle.n41_calls.specs.Walks.{list_size, nothing_listed, listed_of};
+ghost use Rattle.n41_calls.specs.Values.{listing_of, listing_in, names_of, cookie_after, ends_with, ends_by, list_value, listed_after};
 ghost use Rattle.n41_said.specs.Listings.{names_told};
 
 use n41_model::Listed;

@@ -1,9 +1,11 @@
 ghost use Rattle.std.specs.Prelude.{◌≡◌, option_copied, IfOk};
-ghost use Rattle.n41_calls.specs.Calls.{walk_most, at_root, listed_of, parents, last_of, route, ahead, turned, way_of, walked, walked_by, reached, reached_in};
-ghost use Rattle.n41_said.specs.Handles.{fh_in};
+ghost use Rattle.n41_calls.specs.Walks.{walk_most, at_root, listed_of, parents, last_of, route, ahead, turned, way_of, walked};
+ghost use Rattle.n41_calls.specs.Values.{reached_in};
+ghost use Rattle.n41_calls.specs.Calls.{walked_by};
 
+use n41_files::reached;
 use n41_model::{Listed, Way};
-use n41_results::{ReplyBody, Res, SessionMade};
+use n41_results::{ReplyBody, SessionMade};
 use n41_types::{Command, Fh, Name, NoMemory, Place};
 use std::mem;
 
@@ -17,15 +19,18 @@ pub fn walk_most(session: Option<SessionMade>) -> u64
     }
 }
 
-/// A command at its beginning stands at the root.
-fn at_root(old: Option<Place>, listed: Option<Listed>) -> Way
-    ensures { result ≡ at_root old listed }
+/// A command at its beginning stands at the root; its label named this handle.
+fn at_root(old: Option<Place>, listed: Option<Listed>, handle: Option<u64>) -> Way
+    ensures { result ≡ at_root old listed handle }
 {
     Way {
         at: Place::Root,
         walked: 0,
         old,
         listed,
+        handle,
+        stale: None,
+        lowered: false,
     }
 }
 
@@ -48,6 +53,8 @@ fn route<'a>(command: &'a Command, old: &Option<Place>) -> &'a [Name]
     ensures { result.now ≡ route command.now old.now }
 {
     match command {
+        Command::Create { path, .. } => parents(path.as_slice()),
+        Command::OpenFile { path, .. } => path.as_slice(),
         Command::Stat { path } | Command::List { path } => path.as_slice(),
         Command::MakeDir { path } => parents(path.as_slice()),
         Command::Remove { path } => parents(path.as_slice()),
@@ -77,16 +84,18 @@ fn turned(command: &Command, way: &mut Way)
             let reached = mem::replace(&mut way.at, Place::Root);
             way.walked = 0;
             way.old = Some(reached);
+            way.stale = None;
+            way.lowered = false;
         }
     }
 }
 
-/// How far a command has come that begins, with the listing that it begins.
-pub fn way_of(command: &Command, listed: Option<Listed>) -> Way
+/// How far a command has come that begins, with the listing that it begins, and the handle that its label names.
+pub fn way_of(command: &Command, handle: Option<u64>, listed: Option<Listed>) -> Way
     requires { listed ≡ listed_of command.now }
-    ensures { result ≡ way_of command.now }
+    ensures { result ≡ way_of command.now handle }
 {
-    let mut way = at_root(None, listed);
+    let mut way = at_root(None, listed, handle);
     turned(command, &mut way);
     way
 }
@@ -110,34 +119,14 @@ pub(crate) fn walked_by(command: &Command, names: &[Name], reached: Option<Fh>, 
     }
 }
 
-/// The filehandle that a result tells.
-fn fh_in(last: &Res) -> Option<&Fh>
-    ensures { option_copied result ≡ fh_in last.now }
-{
-    match last {
-        Res::GetFh(Ok(fh)) => Some(fh),
-        _ => None,
-    }
-}
-
-/// The filehandle of a last GETFH.
-fn last_fh(results: &[Res]) -> Option<&Fh>
-    ensures { option_copied result ≡ reached results.now }
-{
-    match results.last() {
-        None => None,
-        Some(last) => fh_in(last),
-    }
-}
-
 /// The filehandle of a last GETFH of a reply.
-pub(crate) fn reached(body: &ReplyBody) -> Result<Option<Fh>, NoMemory>
+pub(crate) fn reached_in(body: &ReplyBody) -> Result<Option<Fh>, NoMemory>
     ensures { IfOk result (λ fh. fh ≡ reached_in body.now) }
 {
     let ReplyBody::Results { list, .. } = body else {
         return Ok(None);
     };
-    match last_fh(list.as_slice()) {
+    match reached(list.as_slice()) {
         None => Ok(None),
         Some(fh) => Ok(Some(fh.clone()?)),
     }

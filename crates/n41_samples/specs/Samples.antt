@@ -1,16 +1,18 @@
 -- Some runs: what the law of runs speaks of is there (own).
-use Rattle.std.specs.Prelude.{◌≡◌, ℕ, zero, suc, Bool, true, false, List, [], ◌∷◌, replicate, Some, None, Ok}
+use Rattle.std.specs.Prelude.{◌≡◌, ℕ, zero, suc, Bool, true, false, List, [], ◌∷◌, replicate, Some, None, Ok, is_some}
 use Rattle.n41_types.specs.declared.attributes.Attrs.{Attrs}
 use Rattle.n41_types.specs.declared.commands.Answer.TheVariants as says
 use Rattle.n41_types.specs.declared.commands.Command.TheVariants as asks
 use Rattle.n41_types.specs.declared.commands.Value.TheVariants as value
 use Rattle.n41_types.specs.declared.identities.SessionId.{SessionId}
+use Rattle.n41_types.specs.declared.identities.Stateid.{Stateid}
 use Rattle.n41_types.specs.declared.plans.Place.TheVariants.{Root}
 use Rattle.n41_types.specs.declared.plans.Plan.{Plan}
 use Rattle.n41_types.specs.declared.plans.Plan.TheVariants as plan
 use Rattle.n41_types.specs.declared.plans.Request.{Request}
 use Rattle.n41_types.specs.declared.statuses.Status.{Status}
 use Rattle.n41_results.specs.declared.openings.ChangeInfo.{ChangeInfo}
+use Rattle.n41_results.specs.declared.openings.Delegation.TheVariants.{Nothing}
 use Rattle.n41_results.specs.declared.replies.Reply.{Reply}
 use Rattle.n41_results.specs.declared.results.Res.{Res}
 use Rattle.n41_results.specs.declared.results.Res.TheVariants as res
@@ -25,6 +27,7 @@ use Rattle.n41_journal.specs.declared.events.Event.TheVariants.{Began, Put, Dial
 use Rattle.n41_model.specs.declared.words.Setup.{Setup}
 use Rattle.n41_calls.specs.Kept.{Kept}
 use Rattle.n41_runs.specs.Effects.{effects_of}
+use Rattle.n41_runs.specs.Records.{open_record}
 use Rattle.n41_runs.specs.Rules.{Legal}
 use Rattle.n41_runs.specs.declared.steps.Step.{Step}
 use Rattle.n41_runs.specs.declared.steps.Step.TheVariants.{Does, Takes, Runs, Repeats, Refuses, Names, Makes, Binds}
@@ -94,6 +97,36 @@ dir_made = res.PutRootFh ok ∷ res.Create (Ok (record { change = change; set = 
 abbrev pub mkdir_reply : Reply
 mkdir_reply = ran_reply mkdir (turn 3) dir_made
 
+-- ---- a file, with its open record
+
+abbrev pub fh : List ℕ
+fh = 1 ∷ []
+
+abbrev pub stateid : ℕ → Stateid
+stateid s = record { seqid = s; other = replicate 12 0 }
+
+-- the owner of the opens of user 0 in the first session: "0:1"
+abbrev pub opener : List ℕ
+opener = 48 ∷ 58 ∷ 49 ∷ []
+
+abbrev pub making : Request
+making = slotted 5 3 true (plan.CreateFile Root (97 ∷ []) true opener)
+
+abbrev pub writing : Request
+writing = slotted 6 4 true (plan.WriteBytes fh (stateid 0) 0 (98 ∷ 99 ∷ []))
+
+abbrev pub closing : Request
+closing = slotted 7 5 true (plan.CloseState fh (stateid 1))
+
+abbrev pub file_made : List Res
+file_made = res.PutRootFh ok ∷ res.Open (Ok (record { stateid = stateid 1; change = change; flags = 0; set = []; delegation = Nothing })) ∷ res.GetFh (Ok fh) ∷ []
+
+abbrev pub written : List Res
+written = res.PutFh ok ∷ res.Write (Ok (record { count = 2; committed = 2; verifier = replicate 8 0 })) ∷ []
+
+abbrev pub closed : List Res
+closed = res.PutFh ok ∷ res.Close (Ok (stateid 2)) ∷ []
+
 abbrev pub delay : Status
 delay = record { 0 = 10008 }
 
@@ -137,8 +170,31 @@ failing (suc k) w = Does DialFailed ∷ failing k w
 abbrev pub unknown : List Step
 unknown = Runs 4 mkdir (turn 3) dir_made ∷ Does (Answered 0 1 says.Unknown) ∷ failing 16 (Does (Broke 1 cause.Link) ∷ asked)
 
+-- A file is made, and is open then.
+abbrev pub held : List Step
+held =
+    Does (Answered 0 1 (says.Done value.Opened)) ∷ Takes 4 1 4 (ran_reply making (turn 3) file_made) ∷ Runs 4 making (turn 3) file_made ∷ Does (Put 1 4 making)
+    ∷ Does (Began 0 1 (asks.Create (102 ∷ []) ((97 ∷ []) ∷ []) true) 0) ∷ opened
+
+-- It is written, and closed.
+abbrev pub filed : List Step
+filed =
+    Does (Answered 0 3 (says.Done value.Closed)) ∷ Takes 6 1 6 (ran_reply closing (turn 5) closed) ∷ Runs 6 closing (turn 5) closed ∷ Does (Put 1 6 closing)
+    ∷ Does (Began 0 3 (asks.Close (102 ∷ [])) 0)
+    ∷ Does (Answered 0 2 (says.Done (value.Wrote 2))) ∷ Takes 5 1 5 (ran_reply writing (turn 4) written) ∷ Runs 5 writing (turn 4) written ∷ Does (Put 1 5 writing)
+    ∷ Does (Began 0 2 (asks.Write (102 ∷ []) 0 (98 ∷ 99 ∷ [])) 0) ∷ held
+
 -- it is a legal run of a client that keeps its rules, and the command took effect so often
 pub record IsRun (w : List Step) (n : ℕ) : Type 0 where
   pub legal : Legal w
   pub kept : Kept setup (client w)
   pub count : effects_of 1 w 0 1 ≡ n
+
+-- So is this one: its commands that make and write the file took effect once, and its close changed no file. The server's record was there
+-- while the file was open, and is there no more.
+pub record IsFiled (w : List Step) : Type 0 where
+  pub run : IsRun w 1
+  pub written : effects_of 1 w 0 2 ≡ 1
+  pub closed : effects_of 1 w 0 3 ≡ 0
+  pub held : is_some (open_record held opener fh) ≡ true
+  pub left : open_record w opener fh ≡ None

@@ -1,4 +1,4 @@
-ghost use Rattle.n41_samples.specs.Samples.{IsRun, late, lost, unknown};
+ghost use Rattle.n41_samples.specs.Samples.{IsFiled, IsRun, filed, late, lost, unknown};
 
 /// A law: a run is legal, and its client keeps its rules, in which the reply to a MKDIR is lost with its connection and the retry gets the
 /// kept reply. It took effect once.
@@ -14,4 +14,9 @@ pub fn a_late_original_runs_once()
 /// A law: so is one that ends without a reply, where the command is answered Unknown and takes effect after that.
 pub fn an_unknown_change_may_run()
     ensures { IsRun unknown 1 }
+{}
+
+/// A law: so is one in which a file is made, written and closed. The server's open record is there as long as the file is open.
+pub fn a_file_is_made_written_and_closed()
+    ensures { IsFiled filed }
 {}

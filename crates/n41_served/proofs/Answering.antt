@@ -29,7 +29,8 @@ use Rattle.n41_moves.proofs.Said.{Said, last_put, slots_are}
 use Rattle.n41_served.proofs.Served.{Served, Says, SaysOn, IsOn, Ran, answers_served}
 use Rattle.n41_moves.proofs.Single.{Single, given, sid_in}
 use Rattle.n41_moves.proofs.Suits.{session_same}
-use Rattle.n41_net.proofs.Verdicts.{has_run, tells_loss, gone_loses, is_dropped, is_too_big, dropped_verdict, dropped_is, refusal_verdict, delay_verdict, gone_verdict, unbound_verdict, size_verdict}
+use Rattle.n41_net.proofs.Verdicts.{has_run, gone_loses, is_dropped, is_too_big, dropped_verdict, dropped_is, refusal_verdict, delay_verdict, gone_verdict, unbound_verdict, size_verdict}
+use Rattle.n41_runs.specs.OpenRules.{tells_loss}
 use Rattle.n41_runs.specs.Rules.{Sizes, Allowed, Pending, MayRepeat, MayMakeAgain, MayMake, slot_refuses, refuses_by, refuses, is_gone, is_bad_slot, is_misordered, is_out_of_turn, is_uncached_body}
 use Rattle.n41_runs.specs.Server.{last, kept, alive, was_made, is_session, is_end_of, is_bound, slots_given}
 use Rattle.n41_runs.specs.declared.steps.Step.{Step}

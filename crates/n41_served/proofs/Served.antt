@@ -17,7 +17,8 @@ use Rattle.n41_model.specs.Requests.{out, used, sent, retried, doubt}
 use Rattle.n41_net.proofs.Net.{Serves}
 use Rattle.n41_moves.proofs.Said.{last_put}
 use Rattle.n41_moves.proofs.Single.{Single, given, sid_in}
-use Rattle.n41_net.proofs.Verdicts.{has_run, tells_loss, is_dropped, is_too_big}
+use Rattle.n41_net.proofs.Verdicts.{has_run, is_dropped, is_too_big}
+use Rattle.n41_runs.specs.OpenRules.{tells_loss}
 use Rattle.n41_runs.specs.Rules.{Sizes}
 use Rattle.n41_runs.specs.Server.{last, kept, alive}
 use Rattle.n41_runs.specs.declared.steps.Step.{Step}

@@ -32,7 +32,8 @@ use Rattle.n41_served.proofs.Running.{runs_served}
 use Rattle.n41_moves.proofs.Said.{Said, said, last_put, made_first, sent_after_not, gives_final}
 use Rattle.n41_served.proofs.Served.{Served, SaysOn, IsOn, Ran, body_in}
 use Rattle.n41_moves.proofs.Single.{Single, single, given, sid_in, or_made}
-use Rattle.n41_net.proofs.Verdicts.{has_run, tells_loss, is_dropped, is_too_big, ends, final_is, gives_is}
+use Rattle.n41_net.proofs.Verdicts.{has_run, is_dropped, is_too_big, ends, final_is, gives_is}
+use Rattle.n41_runs.specs.OpenRules.{tells_loss}
 use Rattle.n41_runs.specs.Rules.{IsNoReply, Sizes, LegalBy, MayBeTaken}
 use Rattle.n41_runs.specs.Server.{last, kept, alive}
 use Rattle.n41_runs.specs.declared.steps.Step.{Step}

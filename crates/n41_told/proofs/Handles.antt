@@ -11,9 +11,12 @@ use Rattle.std.specs.BTreeMap.{insert_entry}
 use Rattle.n41_types.specs.declared.commands.Answer.{Answer}
 use Rattle.n41_types.specs.declared.commands.Answer.TheVariants as says
 use Rattle.n41_types.specs.declared.commands.Command.{Command}
+use Rattle.n41_types.specs.declared.commands.Command.TheVariants as asks
 use Rattle.n41_types.specs.declared.commands.Value.{Value}
 use Rattle.n41_types.specs.declared.commands.Value.TheVariants as value
 use Rattle.n41_types.specs.declared.plans.Plan.{Plan}
+use Rattle.n41_types.specs.declared.plans.Plan.TheVariants as plan
+use Rattle.n41_types.specs.declared.spans.Mode.TheVariants.{Both}
 use Rattle.n41_types.specs.declared.plans.Request.{Request}
 use Rattle.n41_types.specs.declared.plans.SlotUse.{SlotUse}
 use Rattle.n41_types.specs.declared.statuses.Status.{Status}
@@ -34,9 +37,10 @@ use Rattle.n41_model.specs.Replies.{is_final, verdict_of, body_verdict}
 use Rattle.n41_model.specs.Requests.{bares, retried, verdict, bare_verdict}
 use Rattle.n41_calls.specs.Answers.{breach_at, place_or, breaks, misleads}
 use Rattle.n41_calls.specs.Walks.{label_of, new_label, way_of}
-use Rattle.n41_calls.specs.Values.{is_close}
-use Rattle.n41_calls.specs.Files.{Files, seen_at, files_after, files_or}
-use Rattle.n41_calls.specs.Calls.{Call, Hour, call, owner, files, seen, command, ledger, is_caller, named_in, bound_to, unbound, fresh_call, put_call, took_call, labels_after, answered_call, began_files, answered_files, hour, stale_now, way_after, files_told, owner_at, slot_in}
+use Rattle.n41_calls.specs.Values.{is_close, reached}
+use Rattle.n41_calls.specs.Files.{Files, seen_at, open_stateid, opened_by, files_by, files_in, files_after, files_or}
+use Rattle.n41_model.specs.Replies.{is_ok}
+use Rattle.n41_calls.specs.Calls.{Call, Hour, call, owner, files, seen, command, ledger, is_caller, named_in, bound_to, unbound, fresh_call, put_call, took_call, labels_after, labels_by, labels_took, answered_call, began_files, answered_files, hour, stale_now, way_after, files_told, owner_at, slot_in}
 use Rattle.n41_calls.specs.Kept.{May}
 use Rattle.n41_model.specs.Requests.{request}
 use Rattle.n41_calls.proofs.Slots.{Seats}
@@ -48,7 +52,7 @@ use Rattle.n41_moves.proofs.Puts.{PutOf, PutIs, put_of}
 use Rattle.n41_net.proofs.Verdicts.{ends, final_is}
 use Rattle.n41_told.proofs.Chosen.{IsReady, new_owner, owner_ready}
 use Rattle.n41_told.proofs.Ledgers.{NewLedger, SameLedger, new_moves, again_moves, bare_moves, put_files, took_one, told_one, took_call_on, told_on, took_call_bare, took_files_bare}
-use Rattle.n41_told.proofs.Tables.{found, Went, same_went, marked_went, forgotten_went, went_after, way_handle, Moved, HasResults, after_moved}
+use Rattle.n41_told.proofs.Tables.{found, Went, same_went, marked_went, forgotten_went, went_after, way_handle, Moved, HasResults, after_moved, opened_grown}
 
 -- ---- the handles that labels name
 
@@ -162,20 +166,41 @@ unbound_names : (l : Option (List ℕ)) (ls : List (List ℕ × ℕ)) (h : ℕ) 
 unbound_names None ls h e = e
 unbound_names (Some l) ls h e = names_left (pointwise nat_eq l) ls h e
 
-after_names : (c : Option Command) (a : Answer) (w : Way) (ls : List (List ℕ × ℕ)) (h : ℕ) → names (labels_after c a w ls) h ≡ true → (w.handle ≡ Some h) ⊎ (names ls h ≡ true)
-after_names (Some k) (says.Done value.Opened) w ls h e = bound_names (new_label k) w.handle ls h e
-after_names (Some k) (says.Done value.Closed) w ls h e = inr (unbound_names (label_of k) ls h e)
-after_names c a w ls h e = inr e
+after_names : (c : Option Command) (a : Answer) (ls : List (List ℕ × ℕ)) (h : ℕ) → names (labels_after c a ls) h ≡ true → names ls h ≡ true
+after_names (Some k) (says.Done value.Closed) ls h e = unbound_names (label_of k) ls h e
+after_names c a ls h e = e
 
 answered_holds : (c : Option Command) (a : Answer) (k : Call) (h : ℕ) → holds (answered_call c a k) h ≡ true → holds k h ≡ true
-answered_holds c a k h e = by (or_case (is_handle k.way.handle h) (names (labels_after c a k.way k.labels) h) e) where
-  later : (k.way.handle ≡ Some h) ⊎ (names k.labels h ≡ true) → holds k h ≡ true
-  later (inl f) = holds_handle k h f
-  later (inr f) = or_second (is_handle k.way.handle h) (names k.labels h) f
-
-  by : (is_handle k.way.handle h ≡ true) ⊎ (names (labels_after c a k.way k.labels) h ≡ true) → holds k h ≡ true
+answered_holds c a k h e = by (or_case (is_handle k.way.handle h) (names (labels_after c a k.labels) h) e) where
+  by : (is_handle k.way.handle h ≡ true) ⊎ (names (labels_after c a k.labels) h ≡ true) → holds k h ≡ true
   by (inl f) = or_first (is_handle k.way.handle h) (names k.labels h) f
-  by (inr f) = later (after_names c a k.way k.labels h f)
+  by (inr f) = or_second (is_handle k.way.handle h) (names k.labels h) (after_names c a k.labels h f)
+
+-- a reply names the next handle, which is then opened unless it misleads
+abbrev Named : ℕ → List (List ℕ × ℕ) → Files → Option Files → Type 0
+Named h ls f o = (names ls h ≡ true) ⊎ ((h ≡ suc f.opened) × ((g : Files) → o ≡ Some g → g.opened ≡ suc f.opened))
+
+named_or : (l : Option (List ℕ)) (ls : List (List ℕ × ℕ)) (h : ℕ) (f : Files) (o : Option Files) → names (bound_to l (Some (suc f.opened)) ls) h ≡ true → ((g : Files) → o ≡ Some g → g.opened ≡ suc f.opened) → Named h ls f o
+named_or l ls h f o e q = by (bound_names l (Some (suc f.opened)) ls h e) where
+  by : (Some (suc f.opened) ≡ Some h) ⊎ (names ls h ≡ true) → Named h ls f o
+  by (inl i) = inr (let d : suc f.opened ≡ h = cc in sym d, q)
+  by (inr i) = inl i
+
+step_named : (k : Option Command) (p : Plan) (w : Way) (xs : List Res) (f : Files) (ls : List (List ℕ × ℕ)) (h : ℕ) → names (labels_by (suc f.opened) k p ls) h ≡ true → Named h ls f (files_by k w p xs f)
+step_named (Some c) (plan.CreateFile d n x o) w xs f ls h e = named_or (new_label c) ls h f (opened_by o (reached xs) Both (open_stateid xs) f) e (λ g i. (opened_grown o (reached xs) Both (open_stateid xs) f g i).opened)
+step_named (Some (asks.Close l)) (plan.OpenAt fh m o q) w xs f ls h e = inl e
+step_named (Some c) (plan.OpenAt fh m o q) w xs f ls h e = named_or (new_label c) ls h f (opened_by o (Some fh) m (open_stateid xs) f) e (λ g i. (opened_grown o (Some fh) m (open_stateid xs) f g i).opened)
+step_named k p w xs f ls h e = inl e
+
+ran_named : (k : Option Command) (p : Plan) (w : Way) (y : Reply) (s : Status) (f : Files) (ls : List (List ℕ × ℕ)) (h : ℕ) → HasResults (Some (v.Ran s)) y → (b : Bool) → is_ok s ≡ b → names (labels_took (suc f.opened) k p (Some (v.Ran s)) ls) h ≡ true → Named h ls f (files_after k w p (Some (v.Ran s)) y f)
+ran_named k p w y s f ls h a true i e =
+    let r = a s refl in
+    rw i (subst (λ (b : ReplyBody). Named h ls f (files_in k w p b f)) (sym r.2) (step_named k p w r.1 f ls h (rw i at e)))
+ran_named k p w y s f ls h a false i e = inl (rw i at e)
+
+took_named : (k : Option Command) (p : Plan) (w : Way) (x : Option Verdict) (y : Reply) (f : Files) (ls : List (List ℕ × ℕ)) (h : ℕ) → HasResults x y → names (labels_took (suc f.opened) k p x ls) h ≡ true → Named h ls f (files_after k w p x y f)
+took_named k p w (Some (v.Ran s)) y f ls h a e = ran_named k p w y s f ls h a (is_ok s) refl e
+took_named k p w x y f ls h a e = inl e
 
 -- ---- the facts
 
@@ -490,19 +515,25 @@ took_handled n js c k y r p a t = by (owner n js p.slot) refl where
   next_way : ℕ → Way
   next_way z = way_after (suc (files n js).opened) (stale_now js (seen_at (files n js).opens (call n js z).way.handle)) (command js z) r.plan (Some (verdict_of r (retried js p.slot) y)) y (call n js z).way
 
+  next_labels : ℕ → List (List ℕ × ℕ)
+  next_labels z = labels_took (suc (files n js).opened) (command js z) r.plan (Some (verdict_of r (retried js p.slot) y)) (call n js z).labels
+
   same_or : (z h : ℕ) (b : Bool) → (is_final y && (call n js z).busy) ≡ b → holds (one z) h ≡ true → (holds (call n js z) h ≡ true) ⊎ ((h ≡ suc (files n js).opened) × ((g : Files) → told_one js (ledger n js) y r p (Some z) ≡ Some g → g.opened ≡ suc (files n js).opened))
   same_or z h false e f = inl (rw e at f)
-  same_or z h true e f = held_by (after_moved (command js z) r.plan (Some (verdict_of r (retried js p.slot) y)) y (call n js z).way (stale_now js (seen_at (files n js).opens (call n js z).way.handle)) (files n js) (has_results r (retried js p.slot) y)) (or_case (is_handle (next_way z).handle h) (names (call n js z).labels h) (rw e at f)) where
+  same_or z h true e f = held_by (after_moved (command js z) r.plan (Some (verdict_of r (retried js p.slot) y)) y (call n js z).way (stale_now js (seen_at (files n js).opens (call n js z).way.handle)) (files n js) (has_results r (retried js p.slot) y)) (or_case (is_handle (next_way z).handle h) (names (next_labels z) h) (rw e at f)) where
     busy : (call n js z).busy ≡ true
     busy = and_second (is_final y) ((call n js z).busy) e where
       and_second : (a b : Bool) → (a && b) ≡ true → b ≡ true
       and_second true b e = e
       and_second false b e = absurd (true≢false (sym e))
 
-    held_by : Moved (call n js z).way (next_way z) (files n js) (on z) → (is_handle (next_way z).handle h ≡ true) ⊎ (names (call n js z).labels h ≡ true) → (holds (call n js z) h ≡ true) ⊎ ((h ≡ suc (files n js).opened) × ((g : Files) → told_one js (ledger n js) y r p (Some z) ≡ Some g → g.opened ≡ suc (files n js).opened))
+    held_by : Moved (call n js z).way (next_way z) (files n js) (on z) → (is_handle (next_way z).handle h ≡ true) ⊎ (names (next_labels z) h ≡ true) → (holds (call n js z) h ≡ true) ⊎ ((h ≡ suc (files n js).opened) × ((g : Files) → told_one js (ledger n js) y r p (Some z) ≡ Some g → g.opened ≡ suc (files n js).opened))
     held_by (inl i) (inl j) = inl (holds_handle (call n js z) h (sym i ∙ handle_is (next_way z).handle h j))
     held_by (inr (i, g)) (inl j) = inr (let q : Some (suc (files n js).opened) ≡ Some h = sym i ∙ handle_is (next_way z).handle h j in (let w : h ≡ suc (files n js).opened = cc in w), λ f l. g f (sym (told_busy z true busy) ∙ l))
-    held_by m (inr j) = inl (or_second (is_handle (call n js z).way.handle h) (names (call n js z).labels h) j)
+    held_by m (inr j) = named_by (took_named (command js z) r.plan (call n js z).way (Some (verdict_of r (retried js p.slot) y)) y (files n js) (call n js z).labels h (has_results r (retried js p.slot) y) j) where
+      named_by : Named h (call n js z).labels (files n js) (on z) → (holds (call n js z) h ≡ true) ⊎ ((h ≡ suc (files n js).opened) × ((g : Files) → told_one js (ledger n js) y r p (Some z) ≡ Some g → g.opened ≡ suc (files n js).opened))
+      named_by (inl l) = inl (or_second (is_handle (call n js z).way.handle h) (names (call n js z).labels h) l)
+      named_by (inr (l, g)) = inr (l, λ f m. g f (sym (told_busy z true busy) ∙ m))
 
   by : (o : Option ℕ) → owner n js p.slot ≡ o → Handled n (Took c k y ∷ js)
   by None e = quiet_handled n js (Took c k y ∷ js) t (λ d. call_is d None e) (files_is None e) (λ d. refl) (λ b. clean_before n js c k y b)

@@ -161,9 +161,9 @@ retabled f (Some t) g e = by (rest e) where
   by d = subst (λ (z : Files). Retabled f z (Some t)) d (record { table = t; is = refl; opened = refl; opens = refl })
 
 -- one handle more
-record Grown (f g : Files) (n : ℕ) : Type 0 where
-  opened : g.opened ≡ n
-  keeps : (h : ℕ) → found f.opens.handles h ≡ true → found g.opens.handles h ≡ true
+pub record Grown (f g : Files) (n : ℕ) : Type 0 where
+  pub opened : g.opened ≡ n
+  pub keeps : (h : ℕ) → found f.opens.handles h ≡ true → found g.opens.handles h ≡ true
 
 attached_grown : (h : ℕ) (o fh : List ℕ) (m : Mode) (s : Stateid) (f g : Files) → attached_by h o fh m s f ≡ Some g → Grown f g f.opened
 attached_grown h o fh m s f g e = by (s.seqid == 0) refl where
@@ -174,7 +174,7 @@ attached_grown h o fh m s f g e = by (s.seqid == 0) refl where
       let t = retabled f (attach_in f.opens h (record_named o fh s) s.seqid m) g j in
       record { opened = t.opened; keeps = λ k q. subst (λ (z : Table). found z.handles k ≡ true) (sym t.opens) (attach_keeps f.opens h (record_named o fh s) s.seqid m t.table t.is k q) }
 
-opened_grown : (o : List ℕ) (x : Option (List ℕ)) (m : Mode) (s : Option Stateid) (f g : Files) → opened_by o x m s f ≡ Some g → Grown f g (suc f.opened)
+pub opened_grown : (o : List ℕ) (x : Option (List ℕ)) (m : Mode) (s : Option Stateid) (f g : Files) → opened_by o x m s f ≡ Some g → Grown f g (suc f.opened)
 opened_grown o None m s f g e = absurd (cc)
 opened_grown o (Some fh) m None f g e = absurd (cc)
 opened_grown o (Some fh) m (Some s) f g e =

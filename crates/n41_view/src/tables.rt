@@ -1,6 +1,6 @@
 ghost use Rattle.std.specs.Prelude.{◌≡◌};
 
-use n41_files::Labels;
+use n41_labels::Labels;
 use n41_model::{KnownClient, Phase, Sent, Way};
 use n41_results::SessionMade;
 use n41_types::{Answer, Command, Request};

@@ -3,4 +3,4 @@ use Rattle.n41_report.proofs.Printed.{same_text}
 use Rattle.n41_report.proofs.laws.the_text_is_that_of_the_run.Goals as goal
 
 pub returns : goal.returns
-returns c = λ js s. same_text js 1 (script_lines s)
+returns c = λ n js s. same_text n js 1 (script_lines s)

@@ -1,5 +1,5 @@
 use Rattle.std.proofs.Common.{◌≡◌, ◌++◌, drop}
-use Rattle.n41_calls.specs.Calls.{names_of}
+use Rattle.n41_calls.specs.Values.{names_of}
 use Rattle.n41_said.proofs.listings.names_of.Given as goal
 
 abbrev pub invariant-loop-entry : goal.invariant-loop-entry

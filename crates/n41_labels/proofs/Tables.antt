@@ -1,0 +1,39 @@
+-- The labels as bytes are looked up and changed as the keys are that hold them.
+use Rattle.std.proofs.Common.{◌≡◌, ℕ, Bool, true, false, cond, List, [], ◌∷◌, refl, ap, nat_eq}
+use Rattle.std.specs.declared.alloc.Global.{Global}
+use Rattle.std.specs.declared.vec.Vec.{Vec}
+use Rattle.std.specs.declared.cmp.Ordering.{Ordering}
+use Rattle.std.specs.declared.cmp.Ordering.TheVariants.{Less, Equal, Greater}
+use Rattle.std.specs.Ordering.{nat_cmp, match_ordering}
+use Rattle.std.specs.Cmp.Lexicographic.{pointwise, slice_cmp}
+use Rattle.std.specs.Map.{lookup, remove_entry}
+use Rattle.std.specs.BTreeMap.{insert_entry, is_at}
+use Rattle.std.proofs.lemmas.Map.Text.{is_eq-slice_cmp}
+use Rattle.n41_labels.specs.Inside.{named}
+
+abbrev pub key_cmp : Vec ℕ Global → Vec ℕ Global → Ordering
+key_cmp j k = slice_cmp nat_cmp j.items k.items
+
+pub lookup_named : (l : List ℕ) (es : List (Vec ℕ Global × ℕ)) → lookup (is_at (λ k. slice_cmp nat_cmp l k.items)) es ≡ lookup (pointwise nat_eq l) (named es)
+lookup_named l [] = refl
+lookup_named l (e ∷ es) = rw (is_eq-slice_cmp l e.0.items, lookup_named l es) refl
+
+abbrev removed : List ℕ → List (Vec ℕ Global × ℕ) → List (Vec ℕ Global × ℕ)
+removed l es = remove_entry (is_at (λ k. slice_cmp nat_cmp l k.items)) es
+
+remove_by : (l : List ℕ) (e : Vec ℕ Global × ℕ) (es : List (Vec ℕ Global × ℕ)) → named (removed l es) ≡ remove_entry (pointwise nat_eq l) (named es) → (b : Bool) → named (cond b es (e ∷ removed l es)) ≡ cond b (named es) ((e.0.items, e.1) ∷ remove_entry (pointwise nat_eq l) (named es))
+remove_by l e es ih true = refl
+remove_by l e es ih false = ap (λ x. (e.0.items, e.1) ∷ x) ih
+
+pub remove_named : (l : List ℕ) (es : List (Vec ℕ Global × ℕ)) → named (remove_entry (is_at (λ k. slice_cmp nat_cmp l k.items)) es) ≡ remove_entry (pointwise nat_eq l) (named es)
+remove_named l [] = refl
+remove_named l (e ∷ es) = rw (is_eq-slice_cmp l e.0.items) (remove_by l e es (remove_named l es) (pointwise nat_eq l e.0.items))
+
+insert_by : (k : Vec ℕ Global) (v : ℕ) (e : Vec ℕ Global × ℕ) (es : List (Vec ℕ Global × ℕ)) → named (insert_entry key_cmp es k v) ≡ insert_entry (slice_cmp nat_cmp) (named es) k.items v → (o : Ordering) → named (match_ordering o ((k, v) ∷ e ∷ es) ((e.0, v) ∷ es) (e ∷ insert_entry key_cmp es k v)) ≡ match_ordering o ((k.items, v) ∷ named (e ∷ es)) ((e.0.items, v) ∷ named es) ((e.0.items, e.1) ∷ insert_entry (slice_cmp nat_cmp) (named es) k.items v)
+insert_by k v e es ih Less = refl
+insert_by k v e es ih Equal = refl
+insert_by k v e es ih Greater = ap (λ x. (e.0.items, e.1) ∷ x) ih
+
+pub insert_named : (k : Vec ℕ Global) (v : ℕ) (es : List (Vec ℕ Global × ℕ)) → named (insert_entry key_cmp es k v) ≡ insert_entry (slice_cmp nat_cmp) (named es) k.items v
+insert_named k v [] = refl
+insert_named k v (e ∷ es) = insert_by k v e es (insert_named k v es) (slice_cmp nat_cmp k.items e.0.items)
