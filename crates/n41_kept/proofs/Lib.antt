@@ -1,3 +1,4 @@
 pub mod Shown
 pub mod Acts
 pub mod Quiet
+pub mod Plans

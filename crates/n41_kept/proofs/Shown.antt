@@ -20,7 +20,7 @@ use Rattle.n41_model.specs.Requests.{out, rounds, used}
 use Rattle.n41_calls.specs.Answers.{round_limit}
 use Rattle.n41_calls.specs.Values.{is_close}
 use Rattle.n41_calls.specs.Calls.{call, command, files, owner}
-use Rattle.n41_net.proofs.Verdicts.{tells_loss}
+use Rattle.n41_runs.specs.OpenRules.{tells_loss}
 use Rattle.n41_served.proofs.Served.{IsOn}
 use Rattle.n41_runs.specs.Rules.{IsRun}
 use Rattle.n41_runs.specs.Server.{kept, last}
