@@ -3,3 +3,5 @@ pub mod Acts
 pub mod Quiet
 pub mod Plans
 pub mod Putting
+pub mod Owners
+pub mod Commands
