@@ -450,3 +450,39 @@ answered_unmarked n js v c m h a s e b l f = record {
     idle = λ z. b;
   });
 }
+
+no_handle_left : (n : ℕ) (js : List Event) (v : Scene) (c : ℕ) → (call n js c).way.handle ≡ None → (call n js c).busy ≡ false → IsLeft n js v c
+no_handle_left n js v c e b = record { gone = λ z g o i p. absurd (no_some g (sym e ∙ i.handle)); idle = λ z. b }
+
+over_left : (n : ℕ) (js : List Event) (v : Scene) (c : ℕ) → Standing n js v → round_limit ≤ rounds js → IsLeft n js v c
+over_left n js v c s l = record { gone = λ z g o i p. over_not n js v s l z; idle = λ z. absurd (over_not n js v s l z) }
+
+other_left : (n : ℕ) (js : List Event) (v : Scene) (c : ℕ) → is_close (command js c) ≡ false → (call n js c).busy ≡ false → IsLeft n js v c
+other_left n js v c e b = record { gone = λ z g o i p. absurd (true≢false (sym i.asked ∙ e)); idle = λ z. b }
+
+refused_earned : (n : ℕ) (js : List Event) (c : ℕ) (y : Status) → ((call n js c).earned ≡ Some (says.Refused y)) ⊎ (((says.Refused y ≡ says.NotOpen) × (seen n js c ≡ None)) ⊎ (says.Refused y ≡ says.Done value.Closed)) → (call n js c).earned ≡ Some (says.Refused y)
+refused_earned n js c y (inl e) = e
+refused_earned n js c y (inr (inl e)) = absurd (let f = e.0 in cc)
+refused_earned n js c y (inr (inr e)) = absurd (cc)
+
+closed_answer : (n : ℕ) (js : List Event) (v : Scene) (c m : ℕ) → Standing n js v → (call n js c).busy ≡ false → (h : Option ℕ) → (call n js c).way.handle ≡ h → HasShown n (Answered c m (says.Done value.Closed) ∷ js) v
+closed_answer n js v c m s b None e = answered_plain n js v c m (says.Done value.Closed) s (ap (λ (o : Option ℕ). forgotten_at o (files n js)) e) (no_handle_left n js v c e b)
+closed_answer n js v c m s b (Some h) e = answered_gone n js v c m h (says.Done value.Closed) s e b (ap (λ (o : Option ℕ). forgotten_at o (files n js)) e)
+
+refused_answer : (n : ℕ) (js : List Event) (v : Scene) (c m : ℕ) (y : Status) → Standing n js v → given n js c ≡ Some (says.Refused y) → (call n js c).busy ≡ false → (w : Bool) → is_close (command js c) ≡ w → (h : Option ℕ) → (call n js c).way.handle ≡ h → HasShown n (Answered c m (says.Refused y) ∷ js) v
+refused_answer n js v c m y s g b false f h e = answered_plain n js v c m (says.Refused y) s (ap (λ (z : Bool). if z then marked_at (call n js c).way.handle false (files n js) else files n js) f) (other_left n js v c f b)
+refused_answer n js v c m y s g b true f None e = answered_plain n js v c m (says.Refused y) s (ap (λ (z : Bool). if z then marked_at (call n js c).way.handle false (files n js) else files n js) f ∙ ap (λ (o : Option ℕ). marked_at o false (files n js)) e) (no_handle_left n js v c e b)
+refused_answer n js v c m y s g b true f (Some h) e = answered_unmarked n js v c m h (says.Refused y) s e b (s.shown.refused c h y (record { asked = f; handle = e }) (refused_earned n js c y (given_close n js c (says.Refused y) f g))) (ap (λ (z : Bool). if z then marked_at (call n js c).way.handle false (files n js) else files n js) f ∙ ap (λ (o : Option ℕ). marked_at o false (files n js)) e)
+
+done_answer : (u : Setup) (js : List Event) (v : Scene) (c m : ℕ) (x : Value) → Standing u.callers js v → given u.callers js c ≡ Some (says.Done x) → (call u.callers js c).busy ≡ false → HasShown u.callers (Answered c m (says.Done x) ∷ js) v
+done_answer u js v c m value.Closed s g b = closed_answer u.callers js v c m s b (call u.callers js c).way.handle refl
+done_answer u js v c m x s g b = answered_plain u.callers js v c m (says.Done x) s refl (given_left u.callers js v c (says.Done x) s g (λ y. absurd y) (λ y. absurd (cc)) b)
+
+pub answered_has : (u : Setup) (js : List Event) (v : Scene) (c m : ℕ) (a : Answer) → Standing u.callers js v → command js c ≢ None → HasCause u.callers js c a → HasShown u.callers (Answered c m a ∷ js) v
+answered_has u js v c m (says.Done x) s k h = done_answer u js v c m x s h.0 (given_idle u js c (says.Done x) s.told s.handled k h.0)
+answered_has u js v c m (says.Refused y) s k h = refused_answer u.callers js v c m y s h (given_idle u js c (says.Refused y) s.told s.handled k h) (is_close (command js c)) refl (call u.callers js c).way.handle refl
+answered_has u js v c m says.Unknown s k h = answered_plain u.callers js v c m says.Unknown s refl (over_left u.callers js v c s h.ended)
+answered_has u js v c m (says.StateLost y) s k h = absurd h
+answered_has u js v c m (says.Unreachable y) s k h = answered_plain u.callers js v c m (says.Unreachable y) s refl (over_left u.callers js v c s h.ended)
+answered_has u js v c m says.NotOpen s k h = answered_plain u.callers js v c m says.NotOpen s refl (given_left u.callers js v c says.NotOpen s h (λ y. absurd y) (λ y. absurd (cc)) (given_idle u js c says.NotOpen s.told s.handled k h))
+answered_has u js v c m (says.Breach p) s k h = absurd (no_some p (sym s.clean ∙ h))

@@ -5,3 +5,4 @@ pub mod Plans
 pub mod Putting
 pub mod Owners
 pub mod Commands
+pub mod Taking
