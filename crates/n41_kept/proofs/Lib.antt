@@ -6,3 +6,4 @@ pub mod Putting
 pub mod Owners
 pub mod Commands
 pub mod Taking
+pub mod Replies
