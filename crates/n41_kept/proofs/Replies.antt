@@ -231,3 +231,92 @@ closed_outcome n js v s c h g i x y o w k z d e wh = record {
 
   alone : is_alone (files n js).opens (Some h) ≡ true
   alone = sym (is_alone_same n js v h k) ∙ (alone_by v.table h o z.there (is_alone v.table (Some h)) refl).0 none
+
+-- ---- by plans
+
+-- a result of SEQUENCE before the others
+abbrev pub all_results : Sequenced → List Res → List Res
+all_results q xs = res.Sequence (Ok q) ∷ xs
+
+not_close_plan : (n : ℕ) (js : List Event) (v : Scene) (s c : ℕ) (k : Command) (p : Plan) (xs : List Res) → Heard n js v s c k p xs → is_close_plan p ≡ false → is_close (command js c) ≡ false
+not_close_plan n js v s c k p xs h e = by (is_close (Some k)) refl where
+  by : (b : Bool) → is_close (Some k) ≡ b → is_close (command js c) ≡ false
+  by true f = absurd (true≢false (sym (h.mine.serves.closes f) ∙ e))
+  by false f = ap (λ (o : Option Command). is_close o) h.asked ∙ f
+
+opened_did : (n : ℕ) (js : List Event) (v : Scene) (s : ℕ) (o : List ℕ) (f : Option (List ℕ)) (m : Mode) (xs : List Res) → (d : DidOpen o f m xs) → v.under s ≡ opening o f m (open_stateid xs) → v.under s ≡ opens o d.file m d.stateid
+opened_did n js v s o f m xs d e = e ∙ ap (λ (y : Option Stateid). opening o f m y) d.told ∙ ap (λ (y : Option (List ℕ)). opening o y m (Some d.stateid)) d.reached
+
+create_outcome : (n : ℕ) (js : List Event) (v : Scene) (s c : ℕ) (o : List ℕ) (f : Option (List ℕ)) (m : Mode) (xs : List Res) (w : Way) (e : Option Answer) → Standing n js v → (d : DidOpen o f m xs) → v.under s ≡ opening o f m (open_stateid xs) → is_close (command js c) ≡ false → Outcome n js v s c (opened_by o f m (open_stateid xs) (files n js)) w e
+create_outcome n js v s c o f m xs w e k d u q =
+    let a = opened_outcome n js v s c o d.file m d.stateid w e k (opened_did n js v s o f m xs d u) q in
+    let b : opened_by o f m (open_stateid xs) (files n js) ≡ opened_by o (Some d.file) m (Some d.stateid) (files n js) = ap (λ (y : Option (List ℕ)). opened_by o y m (open_stateid xs) (files n js)) d.reached ∙ ap (λ (y : Option Stateid). opened_by o (Some d.file) m y (files n js)) d.told in
+    subst (λ (y : Option Files). Outcome n js v s c y w e) (sym b) a
+
+refresh_outcome : (n : ℕ) (js : List Event) (v : Scene) (s c : ℕ) (l g o : List ℕ) (m : Mode) (xs : List Res) (w : Way) → Standing n js v → v.over ≡ false → (d : DidOpen o (Some g) m xs) → v.under s ≡ opening o (Some g) m (open_stateid xs) → command js c ≡ Some (asks.Close l) → (h : ℕ) → (call n js c).way.handle ≡ Some h → v.asks s ≡ refreshes h → w.handle ≡ (call n js c).way.handle → w.lowered ≡ (call n js c).way.lowered → Outcome n js v s c (refreshed_by (call n js c).way.handle o g m (open_stateid xs) (files n js)) w None
+refresh_outcome n js v s c l g o m xs w k z d u a h e y wh wl =
+    let f : d.file ≡ g = sym (some_is g d.file d.reached) in
+    let b = opened_did n js v s o (Some g) m xs d u in
+    let i = refreshed_outcome n js v s c h o g m d.stateid w k z (subst (λ (q : List ℕ). v.under s ≡ opens o q m d.stateid) f b) y e (ap (λ (q : Option Command). is_close q) a) wh wl in
+    let j : refreshed_by (call n js c).way.handle o g m (open_stateid xs) (files n js) ≡ refreshed_by (Some h) o g m (Some d.stateid) (files n js) = ap (λ (q : Option ℕ). refreshed_by q o g m (open_stateid xs) (files n js)) e ∙ ap (λ (q : Option Stateid). refreshed_by (Some h) o g m q (files n js)) d.told in
+    subst (λ (q : Option Files). Outcome n js v s c q w None) (sym j) i
+
+-- the close whose OPEN_DOWNGRADE or CLOSE was answered
+record Closing (n : ℕ) (js : List Event) (v : Scene) (s c : ℕ) (g : List ℕ) (i : Stateid) (m : Option Mode) : Type 0 where
+  handle : ℕ
+  it : Open
+  shrunk : IsShrunk v s handle g i m it
+  closer : IsCloser n js c handle
+
+is_closing : (n : ℕ) (js : List Event) (v : Scene) (s c : ℕ) (k : Command) (p : Plan) (xs : List Res) (g : List ℕ) (i : Stateid) (m : Option Mode) → Heard n js v s c k p xs → is_shrink p ≡ true → ((h : ℕ) (b : Bool) → ask_by (Some h) b p ≡ shrinks h g i m) → Closing n js v s c g i m
+is_closing n js v s c k p xs g i m h e f = record {
+  handle = x.0;
+  it = o.0;
+  shrunk = record { kept = h.standing.kept; going = h.going; asked = a; there = o.1 };
+  closer = record { asked = ap (λ (y : Option Command). is_close y) h.asked ∙ close; handle = x.1 };
+} where
+  close_by : (b : Bool) → is_close (Some k) ≡ b → is_close (Some k) ≡ true
+  close_by true q = q
+  close_by false q = absurd (true≢false (sym e ∙ h.mine.serves.others q))
+
+  close : is_close (Some k) ≡ true
+  close = close_by (is_close (Some k)) refl
+
+  x : (y : ℕ) × ((call n js c).way.handle ≡ Some y)
+  x = h.mine.serves.handle (inr close)
+
+  a : v.asks s ≡ shrinks x.0 g i m
+  a = h.mine.asks ∙ ap (λ (y : Option ℕ). ask_by y (is_close (Some k)) p) x.1 ∙ f x.0 (is_close (Some k))
+
+  o : (y : Open) × (open_of v.table.handles x.0 ≡ Some y)
+  o = (h.standing.kept.owned h.going).there s x.0 (ap (λ (y : Ask). handle_in y) a)
+
+down_outcome : (n : ℕ) (js : List Event) (v : Scene) (s c : ℕ) (k : Command) (g : List ℕ) (i : Stateid) (m : Mode) (xs : List Res) (w : Way) → Heard n js v s c k (plan.Downgrade g i m) xs → w.handle ≡ (call n js c).way.handle → w.lowered ≡ true → Outcome n js v s c (lowered_by (call n js c).way.handle (shrunk_stateid xs) (files n js)) w (done_with (closed_value (is_alone (files n js).opens (call n js c).way.handle)))
+down_outcome n js v s c k g i m xs w h wh wl =
+    let q = is_closing n js v s c k (plan.Downgrade g i m) xs g i (Some m) h refl (λ y b. refl) in
+    let d : v.under s ≡ lowers g i m h.acted.0 = h.did ∙ ap (λ (y : Option Stateid). lowering g i m y) h.acted.1 in
+    let a = lowered_outcome n js v s c q.handle g i m h.acted.0 q.it w h.standing q.shrunk d q.closer wh wl (is_alone (files n js).opens (Some q.handle)) refl in
+    subst (λ (y : Option Stateid). Outcome n js v s c (lowered_by (call n js c).way.handle y (files n js)) w (done_with (closed_value (is_alone (files n js).opens (call n js c).way.handle)))) (sym h.acted.1) (
+      subst (λ (y : Option ℕ). Outcome n js v s c (lowered_by y (Some h.acted.0) (files n js)) w (done_with (closed_value (is_alone (files n js).opens y)))) (sym q.closer.handle) a)
+
+close_outcome : (n : ℕ) (js : List Event) (v : Scene) (s c : ℕ) (k : Command) (g : List ℕ) (i : Stateid) (xs : List Res) (w : Way) → Heard n js v s c k (plan.CloseState g i) xs → w.handle ≡ (call n js c).way.handle → Outcome n js v s c (closed_by (call n js c).way.handle (shrunk_stateid xs) (files n js)) w (Some (says.Done value.Closed))
+close_outcome n js v s c k g i xs w h wh =
+    let q = is_closing n js v s c k (plan.CloseState g i) xs g i None h refl (λ y b. refl) in
+    let d : v.under s ≡ closes g i h.acted.0 = h.did ∙ ap (λ (y : Option Stateid). closing g i y) h.acted.1 in
+    let a = closed_outcome n js v s c q.handle g i h.acted.0 h.acted.0 q.it w h.standing q.shrunk d q.closer wh in
+    subst (λ (y : Option Stateid). Outcome n js v s c (closed_by (call n js c).way.handle y (files n js)) w (Some (says.Done value.Closed))) (sym h.acted.1) (
+      subst (λ (y : Option ℕ). Outcome n js v s c (closed_by y (Some h.acted.0) (files n js)) w (Some (says.Done value.Closed))) (sym q.closer.handle) a)
+
+plain_outcome : (n : ℕ) (js : List Event) (v : Scene) (s c : ℕ) (k : Command) (p : Plan) (xs : List Res) (w : Way) (e : Option Answer) → Heard n js v s c k p xs → deed p xs ≡ nothing → is_close_plan p ≡ false → Outcome n js v s c (Some (files n js)) w e
+plain_outcome n js v s c k p xs w e h d f = still_outcome n js v s c (Some (files n js)) w e h.standing (h.did ∙ d) refl (other_call n js v c v.table v.low w e (not_close_plan n js v s c k p xs h f))
+
+-- the reply with OK to any plan
+pub ok_outcome : (n : ℕ) (js : List Event) (v : Scene) (s c : ℕ) (k : Command) (p : Plan) (y : Reply) (q : Sequenced) (st : Status) (xs : List Res) → Heard n js v s c k p xs → Outcome n js v s c (files_by (Some k) (call n js c).way p (all_results q xs) (files n js)) (step_of (suc (files n js).opened) (Some k) p y (call n js c).way) (done_with (body_value (Some k) (is_alone (files n js).opens (call n js c).way.handle) (call n js c).way.listed p (Results st (all_results q xs))))
+ok_outcome n js v s c k (plan.CreateFile d f g o) y q st xs h = create_outcome n js v s c o (reached xs) Both xs _ _ h.standing h.acted h.did (not_close_plan n js v s c k (plan.CreateFile d f g o) xs h refl)
+ok_outcome n js v s c (asks.Close l) (plan.OpenAt g m o z) y q st xs h =
+    let x = h.mine.serves.handle (inr refl) in
+    refresh_outcome n js v s c l g o m xs _ h.standing h.going h.acted h.did h.asked x.0 x.1 (h.mine.asks ∙ ap (λ (b : Option ℕ). ask_by b true (plan.OpenAt g m o z)) x.1) refl refl
+ok_outcome n js v s c k (plan.OpenAt g m o z) y q st xs h = create_outcome n js v s c o (Some g) m xs _ _ h.standing h.acted h.did (ap (λ (b : Option Command). is_close b) h.asked)
+ok_outcome n js v s c k (plan.Downgrade g i m) y q st xs h = down_outcome n js v s c k g i m xs _ h refl refl
+ok_outcome n js v s c k (plan.CloseState g i) y q st xs h = close_outcome n js v s c k g i xs _ h refl
+ok_outcome n js v s c k p y q st xs h = plain_outcome n js v s c k p xs _ _ h h.acted refl
