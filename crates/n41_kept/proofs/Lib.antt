@@ -7,3 +7,5 @@ pub mod Owners
 pub mod Commands
 pub mod Taking
 pub mod Replies
+pub mod Outcomes
+pub mod Takes

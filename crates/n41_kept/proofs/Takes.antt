@@ -1,0 +1,296 @@
+-- A reply is taken: client and server.
+use Rattle.std.proofs.Common.{◌≡◌, ◌≢◌, ◌⊎◌, inl, inr, ℕ, suc, ◌<◌, ◌≤◌, ◌==◌, ◌-◌, Bool, true, false, ◌&&◌, ◌||◌, not, List, [], ◌∷◌, Option, Some, None, if◌then◌else◌, refl, sym, ◌∙◌, ap, subst, arith, true≢false}
+use Rattle.std.specs.Prelude.{is_none, is_some}
+use Rattle.std.proofs.lemmas.Bool.{cases_Bool}
+use Rattle.std.proofs.lemmas.Bool.Decides.{nat_tests}
+use Rattle.n41_types.specs.declared.commands.Answer.{Answer}
+use Rattle.n41_types.specs.declared.commands.Command.{Command}
+use Rattle.n41_types.specs.declared.plans.Request.{Request}
+use Rattle.n41_types.specs.declared.plans.SlotUse.{SlotUse}
+use Rattle.n41_results.specs.declared.replies.Reply.{Reply}
+use Rattle.n41_results.specs.declared.sessions.SessionMade.{SessionMade}
+use Rattle.n41_journal.specs.declared.events.Event.{Event}
+use Rattle.n41_journal.specs.declared.events.Event.TheVariants.{Took}
+use Rattle.n41_opens.specs.declared.handles.Open.{Open}
+use Rattle.n41_opens.specs.Opens.{open_of, Table}
+use Rattle.n41_model.specs.declared.words.Setup.{Setup}
+use Rattle.n41_model.specs.declared.words.Verdict.{Verdict}
+use Rattle.n41_model.specs.declared.words.Way.{Way}
+use Rattle.n41_model.specs.Replies.{gives_back, is_final, verdict_of}
+use Rattle.n41_model.specs.Requests.{made, out, request, retried, rounds, used}
+use Rattle.n41_calls.specs.Answers.{asker, misleads, round_limit}
+use Rattle.n41_calls.specs.Calls.{Call, call, command, files, files_told, is_caller, ledger, owner, owner_at, slot_in, stale_now}
+use Rattle.n41_calls.specs.Files.{Files, files_or, is_alone, seen_at}
+use Rattle.n41_calls.specs.Values.{answer_in, is_close}
+use Rattle.n41_calls.specs.Calls.{Hour, hour, took_call, way_after}
+use Rattle.n41_calls.specs.Files.{files_after}
+use Rattle.n41_types.specs.declared.plans.Plan.{Plan}
+use Rattle.n41_calls.proofs.Slots.{Seats}
+use Rattle.n41_moves.proofs.Moves.{bare_took, bare_took_used, TakesBare, TakesOn, took_out, took_used}
+use Rattle.n41_moves.proofs.Said.{gives_final}
+use Rattle.n41_moves.proofs.Single.{given, Single}
+use Rattle.n41_net.proofs.Verdicts.{ends, final_is}
+use Rattle.n41_served.proofs.Served.{IsOn, SaysOn, Served}
+use Rattle.n41_runs.specs.Rules.{Sizes}
+use Rattle.n41_runs.specs.Server.{alive, kept, last}
+use Rattle.n41_runs.specs.declared.steps.Step.{Step}
+use Rattle.n41_runs.specs.declared.steps.Step.TheVariants.{Takes}
+use Rattle.n41_runs.specs.Steps.{client}
+use Rattle.n41_told.proofs.Ledgers.{told_on, told_one, took_call_bare, took_call_on, took_files_bare, took_one}
+use Rattle.n41_told.proofs.Told.{caller_is, GoesOn}
+use Rattle.n41_records.specs.Deeds.{closes, Deed, deeds, lowers, nothing, opens}
+use Rattle.n41_records.proofs.Sound.{no_some, some_is}
+use Rattle.n41_scenes.specs.Scenes.{Ask, at, Fits, handle_in, IsKept, quiet, Scene, shrinks, took}
+use Rattle.n41_scenes.proofs.Serve.{there}
+use Rattle.n41_scenes.proofs.Take.{apart_nothing, apart_opens, backed_took, heard_took, IsApart, IsTook, took_kept}
+use Rattle.n41_kept.proofs.Commands.{Standing}
+use Rattle.n41_kept.proofs.Outcomes.{Comes, Final, final_comes}
+use Rattle.n41_kept.proofs.Owners.{IsOwner, one_out, owner_is}
+use Rattle.n41_kept.proofs.Quiet.{same_shown, SameView}
+use Rattle.n41_kept.proofs.Replies.{AfterCall, Outcome}
+use Rattle.n41_kept.proofs.Shown.{IsCloser, IsMine, IsRan, ShowsClient, ShowsServer}
+use Rattle.n41_kept.proofs.Taking.{IsReplied, Replied, took_shown}
+
+-- ---- the server's side, where slots empty or stay
+
+pub record StaysOn (w : List Step) (st : Step) (v x : Scene) (r : Request) (p : SlotUse) : Type 0 where
+  pub on : IsOn (client w) r p
+  pub same : used (client (st ∷ w)) p.slot ≡ used (client w) p.slot
+  pub under : x.under p.slot ≡ v.under p.slot
+
+pub record ServerStays (w : List Step) (st : Step) (v x : Scene) : Type 0 where
+  pub done : x.done ≡ v.done
+  pub deeds_are : deeds (st ∷ w) ≡ deeds w
+  pub over : x.over ≡ false → v.over ≡ false
+  pub lasts : (r : Request) (p : SlotUse) → (last (st ∷ w) p.sid p.slot ≡ last w p.sid p.slot) × (kept (st ∷ w) p.sid p.slot ≡ kept w p.sid p.slot)
+  pub slots : (r : Request) (p : SlotUse) → IsOn (client (st ∷ w)) r p → StaysOn w st v x r p
+
+pub server_stays : (w : List Step) (st : Step) (v x : Scene) → ServerStays w st v x → ShowsServer w v → ShowsServer (st ∷ w) x
+server_stays w st v x k s = record {
+  done = k.done ∙ s.done ∙ sym k.deeds_are;
+  idle = λ r p o n. (let a = k.slots r p o in a.under ∙ s.idle r p a.on (λ e. n ((k.lasts r p).0 ∙ e ∙ sym a.same)));
+  ran = λ r p o e. (let a = k.slots r p o in let i = s.ran r p a.on (sym (k.lasts r p).0 ∙ e ∙ a.same) in record {
+    sequenced = i.sequenced;
+    results = i.results;
+    is_kept = (k.lasts r p).1 ∙ i.is_kept;
+    run = i.run;
+    did = a.under ∙ i.did;
+    fine = λ z. i.fine (k.over z);
+  });
+}
+
+-- ---- what a step leaves
+
+pub record Scened (u : Setup) (w : List Step) (v : Scene) : Type 0 where
+  pub client : ShowsClient u.callers (client w) v
+  pub server : ShowsServer w v
+  pub kept : IsKept v
+
+-- ---- a reply on a slot
+
+-- what is known where a reply on a slot is taken
+pub record TakesHere (u : Setup) (sizes : Sizes) (w : List Step) (v : Scene) (c k : ℕ) (y : Reply) (r : Request) (p : SlotUse) : Type 0 where
+  pub scene : Scened u w v
+  pub standing : Standing u.callers (client w) v
+  pub going : v.over ≡ false
+  pub served : Served sizes w
+  pub seats : Seats (client w)
+  pub takes : TakesOn (client w) y r p
+  pub says : SaysOn sizes w r p y
+  pub there : alive w p.sid ≡ true
+
+-- what comes of a reply
+pub record HasTaken (u : Setup) (w : List Step) (j c k : ℕ) (y : Reply) : Type 0 where
+  pub scene : Scene
+  pub scened : Scened u (Takes j c k y ∷ w) scene
+  pub true_told : misleads u.callers (client w) y ≡ false
+
+some_not : (o : Option Files) (g : Files) → o ≡ Some g → is_none o ≡ false
+some_not o g e = ap (λ (z : Option Files). is_none z) e
+
+if_true : (b : Bool) (r : Option Request) → (if b && true then None else r) ≡ (if b then None else r)
+if_true true r = refl
+if_true false r = refl
+
+final_out : (js : List Event) (c k n : ℕ) (y : Reply) (r : Request) (p : SlotUse) → Seats js → TakesOn js y r p → is_final y ≡ true → out (Took c k y ∷ js) n ≡ (if p.slot == n then None else out js n)
+final_out js c k n y r p z a f = took_out js c k n y r p z a ∙ ap (λ (b : Bool). if (p.slot == n) && b then None else out js n) f ∙ if_true (p.slot == n) (out js n)
+
+-- the slots after a final reply
+taken_stays : (w : List Step) (j c k : ℕ) (y : Reply) (r : Request) (p : SlotUse) (v : Scene) (t : Table) (l : ℕ → Bool) → Seats (client w) → TakesOn (client w) y r p → is_final y ≡ true → ServerStays w (Takes j c k y) v (took v p.slot t l)
+taken_stays w j c k y r p v t l z a f = record {
+  done = refl;
+  deeds_are = refl;
+  over = λ e. e;
+  lasts = λ q o. (refl, refl);
+  slots = λ q o e. by q o e (p.slot == o.slot) refl (sym (final_out (client w) c k o.slot y r p z a f) ∙ e.is_out);
+} where
+  by : (q : Request) (o : SlotUse) → IsOn (client (Takes j c k y ∷ w)) q o → (b : Bool) → (p.slot == o.slot) ≡ b → (if p.slot == o.slot then None else out (client w) o.slot) ≡ Some q → StaysOn w (Takes j c k y) v (took v p.slot t l) q o
+  by q o e true g h = absurd (no_some q (rw g at h))
+  by q o e false g h = record {
+    on = record { placed = e.placed; is_out = (rw g at h) };
+    same = took_used (client w) c k o.slot y r p a ∙ ap (λ (b : Bool). if b && gives_back y then used (client w) o.slot - 1 else used (client w) o.slot) g;
+    under = there p.slot o.slot nothing v.under (λ q. absurd (grind (arith, nat_tests, g, q)));
+  }
+
+owner_told : (n : ℕ) (js : List Event) (c k : ℕ) (y : Reply) (r : Request) (p : SlotUse) (o : Option ℕ) → TakesOn js y r p → owner n js p.slot ≡ o → files_told js y (asker n js y) (ledger n js) ≡ told_one js (ledger n js) y r p o
+owner_told n js c k y r p o a e = told_on n js y r p a ∙ ap (λ (z : Option ℕ). told_one js (ledger n js) y r p z) e
+
+files_are : (n : ℕ) (js : List Event) (c k : ℕ) (y : Reply) (g : Files) → files_told js y (asker n js y) (ledger n js) ≡ Some g → files n (Took c k y ∷ js) ≡ g
+files_are n js c k y g e = ap (λ (z : Option Files). files_or (files n js) z) e
+
+out_is : (js : List Event) (y : Reply) (r : Request) (p : SlotUse) → TakesOn js y r p → out js p.slot ≢ None
+out_is js y r p a e = no_some r (sym e ∙ a.is_out)
+
+-- ---- no caller's request
+
+none_apart : (u : Setup) (sizes : Sizes) (w : List Step) (v : Scene) (c k : ℕ) (y : Reply) (r : Request) (p : SlotUse) → TakesHere u sizes w v c k y r p → owner u.callers (client w) p.slot ≡ None → (d : Deed) → v.under p.slot ≡ d → (h : ℕ) → IsApart v p.slot h
+none_apart u sizes w v c k y r p t e (opens a b m x) f h = apart_opens v p.slot h a b m x f
+none_apart u sizes w v c k y r p t e (lowers g i m x) f h =
+    let a : Fits (v.asks p.slot) (lowers g i m x) = subst (λ (d : Deed). Fits (v.asks p.slot) d) f (t.scene.kept.fits p.slot) in
+    let b = t.scene.client.handled t.going p.slot a.0 (ap (λ (z : Ask). handle_in z) a.1) in
+    absurd (no_some b.caller (sym e ∙ b.own))
+none_apart u sizes w v c k y r p t e (closes g i x) f h =
+    let a : Fits (v.asks p.slot) (closes g i x) = subst (λ (d : Deed). Fits (v.asks p.slot) d) f (t.scene.kept.fits p.slot) in
+    let b = t.scene.client.handled t.going p.slot a.0 (ap (λ (z : Ask). handle_in z) a.1) in
+    absurd (no_some b.caller (sym e ∙ b.own))
+none_apart u sizes w v c k y r p t e nothing f h = apart_nothing v p.slot h f
+
+still_took : (v : Scene) (s : ℕ) → IsKept v → ((h : ℕ) → IsApart v s h) → IsKept (took v s v.table v.low)
+still_took v s k a = took_kept v s v.table v.low (record {
+  kept = k;
+  rises = k.rises;
+  comes = λ g o f. inl f;
+  same = λ u f n g. refl;
+  heard = λ r o f. heard_took v s v.table v.low r.other o (k.heard r o f);
+  there = k.there;
+  backed = λ h o f. backed_took v s v.table v.low h o (a h) (λ z. z) (k.backed h o f);
+})
+
+le_refl : (a b : ℕ) → a ≡ b → a ≤ b
+le_refl a b e = omega arith
+
+took_none : (u : Setup) (sizes : Sizes) (w : List Step) (v : Scene) (j c k : ℕ) (y : Reply) (r : Request) (p : SlotUse) → TakesHere u sizes w v c k y r p → is_final y ≡ true → owner u.callers (client w) p.slot ≡ None → HasTaken u w j c k y
+took_none u sizes w v j c k y r p t f e = record {
+  scene = took v p.slot v.table v.low;
+  scened = record {
+    client = took_shown u.callers (client w) (Took c k y ∷ client w) v p.slot v.table v.low t.standing t.going (record {
+      outs = λ x. final_out (client w) c k x y r p t.seats t.takes f;
+      owners = λ x. refl;
+      commands = λ x. refl;
+      round = refl;
+      table = t.scene.client.table ∙ ap (λ (z : Files). z.opens) (sym same);
+      opened = le_refl (files u.callers (client w)).opened (files u.callers (Took c k y ∷ client w)).opened (ap (λ (z : Files). z.opened) (sym same));
+      tables = λ g o q. inl (o, q, refl);
+      lows = λ g. inl refl;
+      calls = λ d. inl (took_call_on u.callers (client w) c k d y r p t.takes ∙ ap (λ (z : Option ℕ). if is_caller z d then took_one (client w) (files u.callers (client w)) y r p d (call u.callers (client w) d) else call u.callers (client w) d) e);
+    });
+    server = server_stays w (Takes j c k y) v (took v p.slot v.table v.low) (taken_stays w j c k y r p v v.table v.low t.seats t.takes f) t.scene.server;
+    kept = still_took v p.slot t.scene.kept (none_apart u sizes w v c k y r p t e (v.under p.slot) refl);
+  };
+  true_told = some_not (files_told (client w) y (asker u.callers (client w) y) (ledger u.callers (client w))) (files u.callers (client w)) told;
+} where
+  told : files_told (client w) y (asker u.callers (client w) y) (ledger u.callers (client w)) ≡ Some (files u.callers (client w))
+  told = owner_told u.callers (client w) c k y r p None t.takes e
+
+  same : files u.callers (Took c k y ∷ client w) ≡ files u.callers (client w)
+  same = files_are u.callers (client w) c k y (files u.callers (client w)) told
+
+-- ---- a caller's request
+
+some_command : (o : Option Command) → o ≢ None → (k : Command) × (o ≡ Some k)
+some_command None e = absurd (e refl)
+some_command (Some k) e = (k, refl)
+
+took_way : (t : Hour) (o : Option Command) (p : Plan) (w : Option Verdict) (y : Reply) (k : Call) → is_final y ≡ true → k.busy ≡ true → (took_call t o p w y k).way ≡ way_after t.handle t.stale o p w y k.way
+took_way t o p w y k e f = rw (e, f) refl
+
+took_earned : (t : Hour) (o : Option Command) (p : Plan) (w : Option Verdict) (y : Reply) (k : Call) → is_final y ≡ true → k.busy ≡ true → (took_call t o p w y k).earned ≡ answer_in o t.alone k.way p w k.attempts y
+took_earned t o p w y k e f = rw (e, f) refl
+
+took_by : (u : Setup) (sizes : Sizes) (w : List Step) (v : Scene) (j c k : ℕ) (y : Reply) (r : Request) (p : SlotUse) (d : ℕ) (x : Command) → TakesHere u sizes w v c k y r p → is_final y ≡ true → owner u.callers (client w) p.slot ≡ Some d → IsOwner u.callers (client w) p.slot d → command (client w) d ≡ Some x → Comes u.callers (client w) v p.slot d x r.plan (verdict_of r (retried (client w) p.slot) y) y (stale_now (client w) (seen_at (files u.callers (client w)).opens (call u.callers (client w) d).way.handle)) (call u.callers (client w) d).attempts → HasTaken u w j c k y
+took_by u sizes w v j c k y r p d x t f e o q a = record {
+  scene = took v p.slot a.after.opens a.low;
+  scened = record {
+    client = took_shown u.callers (client w) (Took c k y ∷ client w) v p.slot a.after.opens a.low t.standing t.going (record {
+      outs = λ z. final_out (client w) c k z y r p t.seats t.takes f;
+      owners = λ z. refl;
+      commands = λ z. refl;
+      round = refl;
+      table = ap (λ (z : Files). z.opens) (sym same);
+      opened = subst (λ (z : Files). (files u.callers (client w)).opened ≤ z.opened) (sym same) a.opened;
+      tables = λ g z b. tables_by g z (a.tables g z b);
+      lows = λ g. lows_by g (a.lows g);
+      calls = λ z. calls_by z (d == z) refl;
+    });
+    server = server_stays w (Takes j c k y) v (took v p.slot a.after.opens a.low) (taken_stays w j c k y r p v a.after.opens a.low t.seats t.takes f) t.scene.server;
+    kept = a.kept;
+  };
+  true_told = some_not (files_told (client w) y (asker u.callers (client w) y) (ledger u.callers (client w))) a.after told;
+} where
+  told : files_told (client w) y (asker u.callers (client w) y) (ledger u.callers (client w)) ≡ Some a.after
+  told =
+      owner_told u.callers (client w) c k y r p (Some d) t.takes e
+      ∙ ap (λ (b : Bool). if b then files_after (command (client w) d) (call u.callers (client w) d).way r.plan (Some (verdict_of r (retried (client w) p.slot) y)) y (files u.callers (client w)) else Some (files u.callers (client w))) o.busy
+      ∙ ap (λ (z : Option Command). files_after z (call u.callers (client w) d).way r.plan (Some (verdict_of r (retried (client w) p.slot) y)) y (files u.callers (client w))) q
+      ∙ a.is_told
+
+  same : files u.callers (Took c k y ∷ client w) ≡ a.after
+  same = files_are u.callers (client w) c k y a.after told
+
+  tables_by : (g : ℕ) (z : Open) → ((b : Open) × (open_of v.table.handles g ≡ Some b) × (z.closing ≡ b.closing)) ⊎ ((g ≡ suc (files u.callers (client w)).opened) × ((z.closing ≡ false) × (a.after.opened ≡ suc (files u.callers (client w)).opened))) → ((b : Open) × (open_of v.table.handles g ≡ Some b) × (z.closing ≡ b.closing)) ⊎ ((g ≡ suc (files u.callers (client w)).opened) × ((z.closing ≡ false) × ((files u.callers (Took c k y ∷ client w)).opened ≡ suc (files u.callers (client w)).opened)))
+  tables_by g z (inl b) = inl b
+  tables_by g z (inr b) = inr (b.0, (b.1.0, ap (λ (i : Files). i.opened) same ∙ b.1.1))
+
+  is_that : is_caller (Some d) d ≡ true
+  is_that = grind (arith, nat_tests)
+
+  call_is : call u.callers (Took c k y ∷ client w) d ≡ took_one (client w) (files u.callers (client w)) y r p d (call u.callers (client w) d)
+  call_is = took_call_on u.callers (client w) c k d y r p t.takes ∙ ap (λ (z : Option ℕ). if is_caller z d then took_one (client w) (files u.callers (client w)) y r p d (call u.callers (client w) d) else call u.callers (client w) d) e ∙ ap (λ (b : Bool). if b then took_one (client w) (files u.callers (client w)) y r p d (call u.callers (client w) d) else call u.callers (client w) d) is_that
+
+  hr : Hour
+  hr = hour (client w) (files u.callers (client w)) (call u.callers (client w) d)
+
+  way_is : (call u.callers (Took c k y ∷ client w) d).way ≡ way_after (suc (files u.callers (client w)).opened) (stale_now (client w) (seen_at (files u.callers (client w)).opens (call u.callers (client w) d).way.handle)) (Some x) r.plan (Some (verdict_of r (retried (client w) p.slot) y)) y (call u.callers (client w) d).way
+  way_is = ap (λ (z : Call). z.way) call_is ∙ took_way (hour (client w) (files u.callers (client w)) (call u.callers (client w) d)) (command (client w) d) r.plan (Some (verdict_of r (retried (client w) p.slot) y)) y (call u.callers (client w) d) f o.busy ∙ ap (λ (z : Option Command). way_after (suc (files u.callers (client w)).opened) (stale_now (client w) (seen_at (files u.callers (client w)).opens (call u.callers (client w) d).way.handle)) z r.plan (Some (verdict_of r (retried (client w) p.slot) y)) y (call u.callers (client w) d).way) q
+
+  earned_is : (call u.callers (Took c k y ∷ client w) d).earned ≡ answer_in (Some x) (is_alone (files u.callers (client w)).opens (call u.callers (client w) d).way.handle) (call u.callers (client w) d).way r.plan (Some (verdict_of r (retried (client w) p.slot) y)) (call u.callers (client w) d).attempts y
+  earned_is = ap (λ (z : Call). z.earned) call_is ∙ took_earned (hour (client w) (files u.callers (client w)) (call u.callers (client w) d)) (command (client w) d) r.plan (Some (verdict_of r (retried (client w) p.slot) y)) y (call u.callers (client w) d) f o.busy ∙ ap (λ (z : Option Command). answer_in z (is_alone (files u.callers (client w)).opens (call u.callers (client w) d).way.handle) (call u.callers (client w) d).way r.plan (Some (verdict_of r (retried (client w) p.slot) y)) (call u.callers (client w) d).attempts y) q
+
+  replied : IsReplied u.callers (client w) (Took c k y ∷ client w) v p.slot d a.after.opens a.low
+  replied = record {
+    sole = λ z g i. (let s = owner_is u.callers (client w) z d t.standing.told (record { clean = t.standing.clean; few = t.scene.client.going t.going }) g i in one_out u.callers (client w) z p.slot d s o);
+    keeps = subst (λ (z : Way). (z.handle ≡ (call u.callers (client w) d).way.handle) ⊎ (is_close (command (client w) d) ≡ false)) (sym way_is) a.call.keeps;
+    lowered = λ g z i s b. a.call.lowered g z i s b ∙ ap (λ (z : Way). z.lowered) (sym way_is);
+    earned = λ z i s. a.call.earned z i (sym earned_is ∙ s);
+    refused = λ g z i s b. a.call.refused g z i s (sym earned_is ∙ b);
+  }
+
+  lows_by : (g : ℕ) → (a.low g ≡ v.low g) ⊎ IsCloser u.callers (client w) d g → (a.low g ≡ v.low g) ⊎ ((z : ℕ) × IsCloser u.callers (client w) z g × IsReplied u.callers (client w) (Took c k y ∷ client w) v p.slot z a.after.opens a.low)
+  lows_by g (inl b) = inl b
+  lows_by g (inr b) = inr (d, b, replied)
+
+  calls_by : (z : ℕ) (b : Bool) → (d == z) ≡ b → (call u.callers (Took c k y ∷ client w) z ≡ call u.callers (client w) z) ⊎ IsReplied u.callers (client w) (Took c k y ∷ client w) v p.slot z a.after.opens a.low
+  calls_by z true g = inr (subst (λ (b : ℕ). IsReplied u.callers (client w) (Took c k y ∷ client w) v p.slot b a.after.opens a.low) (let i : d ≡ z = grind (arith, nat_tests, g) in i) replied)
+  calls_by z false g = inl (took_call_on u.callers (client w) c k z y r p t.takes ∙ ap (λ (b : Option ℕ). if is_caller b z then took_one (client w) (files u.callers (client w)) y r p z (call u.callers (client w) z) else call u.callers (client w) z) e ∙ ap (λ (b : Bool). if b then took_one (client w) (files u.callers (client w)) y r p z (call u.callers (client w) z) else call u.callers (client w) z) g)
+
+took_some : (u : Setup) (sizes : Sizes) (w : List Step) (v : Scene) (j c k : ℕ) (y : Reply) (r : Request) (p : SlotUse) (d : ℕ) → TakesHere u sizes w v c k y r p → is_final y ≡ true → owner u.callers (client w) p.slot ≡ Some d → HasTaken u w j c k y
+took_some u sizes w v j c k y r p d t f e =
+    let o = owner_is u.callers (client w) p.slot d t.standing.told (record { clean = t.standing.clean; few = t.scene.client.going t.going }) (out_is (client w) y r p t.takes) e in
+    let q = some_command (command (client w) d) o.asked in
+    took_by u sizes w v j c k y r p d q.0 t f e o q.1 (final_comes u.callers sizes w v r p y d q.0 (stale_now (client w) (seen_at (files u.callers (client w)).opens (call u.callers (client w) d).way.handle)) (call u.callers (client w) d).attempts (record {
+      standing = t.standing;
+      going = t.going;
+      server = t.scene.server;
+      served = t.served;
+      on = record { placed = t.takes.placed; is_out = t.takes.is_out };
+      says = t.says;
+      there = t.there;
+      ended = sym (final_is r (retried (client w) p.slot) y) ∙ f;
+      owner = o;
+      asked = q.1;
+      mine = t.scene.client.mine t.going p.slot d r q.0 t.takes.is_out e q.1;
+    }) (verdict_of r (retried (client w) p.slot) y) refl)
+
+took_final : (u : Setup) (sizes : Sizes) (w : List Step) (v : Scene) (j c k : ℕ) (y : Reply) (r : Request) (p : SlotUse) → TakesHere u sizes w v c k y r p → is_final y ≡ true → (o : Option ℕ) → owner u.callers (client w) p.slot ≡ o → HasTaken u w j c k y
+took_final u sizes w v j c k y r p t f None e = took_none u sizes w v j c k y r p t f e
+took_final u sizes w v j c k y r p t f (Some d) e = took_some u sizes w v j c k y r p d t f e
