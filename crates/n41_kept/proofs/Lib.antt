@@ -9,3 +9,4 @@ pub mod Taking
 pub mod Replies
 pub mod Outcomes
 pub mod Takes
+pub mod Running

@@ -27,7 +27,9 @@ use Rattle.n41_calls.specs.Files.{files_after}
 use Rattle.n41_types.specs.declared.plans.Plan.{Plan}
 use Rattle.n41_calls.proofs.Slots.{Seats}
 use Rattle.n41_moves.proofs.Moves.{bare_took, bare_took_used, TakesBare, TakesOn, took_out, took_used}
-use Rattle.n41_moves.proofs.Said.{gives_final}
+use Rattle.n41_model.specs.declared.words.Verdict.TheVariants as delays
+use Rattle.n41_model.specs.Requests.{slot_number}
+use Rattle.n41_moves.proofs.Said.{gives_final, made_first, none_out}
 use Rattle.n41_moves.proofs.Single.{given, Single}
 use Rattle.n41_net.proofs.Verdicts.{ends, final_is}
 use Rattle.n41_served.proofs.Served.{IsOn, SaysOn, Served}
@@ -294,3 +296,100 @@ took_some u sizes w v j c k y r p d t f e =
 took_final : (u : Setup) (sizes : Sizes) (w : List Step) (v : Scene) (j c k : ℕ) (y : Reply) (r : Request) (p : SlotUse) → TakesHere u sizes w v c k y r p → is_final y ≡ true → (o : Option ℕ) → owner u.callers (client w) p.slot ≡ o → HasTaken u w j c k y
 took_final u sizes w v j c k y r p t f None e = took_none u sizes w v j c k y r p t f e
 took_final u sizes w v j c k y r p t f (Some d) e = took_some u sizes w v j c k y r p d t f e
+
+-- ---- a reply that is not final
+
+not_final_out : (js : List Event) (c k n : ℕ) (y : Reply) (r : Request) (p : SlotUse) → Seats js → TakesOn js y r p → is_final y ≡ false → out (Took c k y ∷ js) n ≡ out js n
+not_final_out js c k n y r p z a f = took_out js c k n y r p z a ∙ ap (λ (b : Bool). if (p.slot == n) && b then None else out js n) f ∙ by (p.slot == n) where
+  by : (b : Bool) → (if b && false then None else out js n) ≡ out js n
+  by true = refl
+  by false = refl
+
+not_gives : (y : Reply) → is_final y ≡ false → gives_back y ≡ false
+not_gives y f = by (gives_back y) refl where
+  by : (b : Bool) → gives_back y ≡ b → gives_back y ≡ false
+  by true g = absurd (true≢false (sym (gives_final y g) ∙ f))
+  by false g = g
+
+unended : (o : Option Command) (w : Way) (p : Plan) (x : Verdict) (y : Reply) (f : Files) → ends x ≡ false → files_after o w p (Some x) y f ≡ Some f
+unended o w p delays.Delayed y f e = refl
+unended o w p delays.Unbound y f e = refl
+unended o w p x y f e = absurd (true≢false e)
+
+took_unfinal : (t : Hour) (o : Option Command) (p : Plan) (w : Option Verdict) (y : Reply) (k : Call) → is_final y ≡ false → took_call t o p w y k ≡ k
+took_unfinal t o p w y k e = rw e refl
+
+unfinal_told : (n : ℕ) (js : List Event) (y : Reply) (r : Request) (p : SlotUse) (o : Option ℕ) → is_final y ≡ false → told_one js (ledger n js) y r p o ≡ Some (files n js)
+unfinal_told n js y r p None e = refl
+unfinal_told n js y r p (Some c) e = by (call n js c).busy where
+  by : (b : Bool) → (if b then files_after (command js c) (call n js c).way r.plan (Some (verdict_of r (retried js p.slot) y)) y (files n js) else Some (files n js)) ≡ Some (files n js)
+  by true = unended (command js c) (call n js c).way r.plan (verdict_of r (retried js p.slot) y) y (files n js) (sym (final_is r (retried js p.slot) y) ∙ e)
+  by false = refl
+
+unfinal_call : (n : ℕ) (js : List Event) (d : ℕ) (y : Reply) (r : Request) (p : SlotUse) (b : Bool) → is_final y ≡ false → (if b then took_one js (files n js) y r p d (call n js d) else call n js d) ≡ call n js d
+unfinal_call n js d y r p true e = took_unfinal (hour js (files n js) (call n js d)) (command js d) r.plan (Some (verdict_of r (retried js p.slot) y)) y (call n js d) e
+unfinal_call n js d y r p false e = refl
+
+-- a reply after which all is as it was
+quiet_taken : (u : Setup) (w : List Step) (v : Scene) (j c k : ℕ) (y : Reply) → Scened u w v → v.over ≡ false → SameView u.callers (client w) (Took c k y ∷ client w) → files_told (client w) y (asker u.callers (client w) y) (ledger u.callers (client w)) ≡ Some (files u.callers (client w)) → ((n : ℕ) (q : Request) → out (client w) n ≡ Some q → used (Took c k y ∷ client w) n ≡ used (client w) n) → HasTaken u w j c k y
+quiet_taken u w v j c k y s z a t f = record {
+  scene = v;
+  scened = record {
+    client = same_shown u.callers (client w) (Took c k y ∷ client w) v a (λ q. (let l : 0 < round_limit = omega arith in l)) (λ q. absurd (true≢false (sym q ∙ z))) s.client;
+    server = server_stays w (Takes j c k y) v v (record {
+      done = refl;
+      deeds_are = refl;
+      over = λ e. e;
+      lasts = λ q o. (refl, refl);
+      slots = λ q o e. (let i : out (client w) o.slot ≡ Some q = sym (a.outs o.slot) ∙ e.is_out in record { on = record { placed = e.placed; is_out = i }; same = f o.slot q i; under = refl });
+    }) s.server;
+    kept = s.kept;
+  };
+  true_told = some_not (files_told (client w) y (asker u.callers (client w) y) (ledger u.callers (client w))) (files u.callers (client w)) t;
+}
+
+took_delayed : (u : Setup) (sizes : Sizes) (w : List Step) (v : Scene) (j c k : ℕ) (y : Reply) (r : Request) (p : SlotUse) → TakesHere u sizes w v c k y r p → is_final y ≡ false → HasTaken u w j c k y
+took_delayed u sizes w v j c k y r p t f = quiet_taken u w v j c k y t.scene t.going (record {
+  outs = λ n. not_final_out (client w) c k n y r p t.seats t.takes f;
+  owners = λ n. refl;
+  calls = λ d. took_call_on u.callers (client w) c k d y r p t.takes ∙ unfinal_call u.callers (client w) d y r p (is_caller (owner u.callers (client w) p.slot) d) f;
+  commands = λ d. refl;
+  files = files_are u.callers (client w) c k y (files u.callers (client w)) told;
+}) told (λ n q e. took_used (client w) c k n y r p t.takes ∙ ap (λ (b : Bool). if (p.slot == n) && b then used (client w) n - 1 else used (client w) n) (not_gives y f) ∙ by (p.slot == n) n) where
+  told : files_told (client w) y (asker u.callers (client w) y) (ledger u.callers (client w)) ≡ Some (files u.callers (client w))
+  told = owner_told u.callers (client w) c k y r p (owner u.callers (client w) p.slot) t.takes refl ∙ unfinal_told u.callers (client w) y r p (owner u.callers (client w) p.slot) f
+
+  by : (b : Bool) (n : ℕ) → (if b && false then used (client w) n - 1 else used (client w) n) ≡ used (client w) n
+  by true n = refl
+  by false n = refl
+
+-- a reply on a slot
+pub took_here : (u : Setup) (sizes : Sizes) (w : List Step) (v : Scene) (j c k : ℕ) (y : Reply) (r : Request) (p : SlotUse) → TakesHere u sizes w v c k y r p → HasTaken u w j c k y
+took_here u sizes w v j c k y r p t = by (is_final y) refl where
+  by : (b : Bool) → is_final y ≡ b → HasTaken u w j c k y
+  by true f = took_final u sizes w v j c k y r p t f (owner u.callers (client w) p.slot) refl
+  by false f = took_delayed u sizes w v j c k y r p t f
+
+-- ---- a reply to a request without a slot
+
+pub took_bare : (u : Setup) (w : List Step) (v : Scene) (j c k : ℕ) (y : Reply) (r : Request) → Scened u w v → v.over ≡ false → Seats (client w) → Single u (client w) → TakesBare (client w) y r → HasTaken u w j c k y
+took_bare u w v j c k y r s z t q a = quiet_taken u w v j c k y s z (record {
+  outs = λ n. outs_by n (made (client w) y) refl;
+  owners = λ n. refl;
+  calls = λ d. took_call_bare u.callers (client w) c k d y r a;
+  commands = λ d. refl;
+  files = took_files_bare u.callers (client w) c k y r a;
+}) told (λ n x e. used_by n x e (made (client w) y) refl) where
+  asked : asker u.callers (client w) y ≡ None
+  asked = ap (λ (o : Option Request). owner_at (ledger u.callers (client w)).owners (slot_in o)) a.found ∙ ap (λ (o : Option SlotUse). owner_at (ledger u.callers (client w)).owners (slot_number o)) a.no_slot
+
+  told : files_told (client w) y (asker u.callers (client w) y) (ledger u.callers (client w)) ≡ Some (files u.callers (client w))
+  told = ap (λ (o : Option ℕ). files_told (client w) y o (ledger u.callers (client w))) asked
+
+  outs_by : (n : ℕ) (m : Option SessionMade) → made (client w) y ≡ m → out (Took c k y ∷ client w) n ≡ out (client w) n
+  outs_by n None e = bare_took (client w) c k n y r t a ∙ ap (λ (m : Option SessionMade). if is_some m then None else out (client w) n) e
+  outs_by n (Some m) e = bare_took (client w) c k n y r t a ∙ ap (λ (m : Option SessionMade). if is_some m then None else out (client w) n) e ∙ sym (none_out u (client w) n t q (made_first u (client w) y r m q a e))
+
+  used_by : (n : ℕ) (x : Request) → out (client w) n ≡ Some x → (m : Option SessionMade) → made (client w) y ≡ m → used (Took c k y ∷ client w) n ≡ used (client w) n
+  used_by n x i None e = bare_took_used (client w) c k n y r a ∙ ap (λ (m : Option SessionMade). if is_some m then 0 else used (client w) n) e
+  used_by n x i (Some m) e = absurd (no_some x (sym (none_out u (client w) n t q (made_first u (client w) y r m q a e)) ∙ i))
