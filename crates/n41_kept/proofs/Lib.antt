@@ -10,3 +10,4 @@ pub mod Replies
 pub mod Outcomes
 pub mod Takes
 pub mod Running
+pub mod Does
