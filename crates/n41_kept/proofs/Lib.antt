@@ -11,3 +11,4 @@ pub mod Outcomes
 pub mod Takes
 pub mod Running
 pub mod Does
+pub mod Run
