@@ -133,7 +133,7 @@ breach_is tells.Breach e = refl
 breach_is x e = absurd (true≢false (sym e))
 
 -- what ran tells of no loss, and nothing else that comes is a breach
-no_loss : (u : Setup) (sizes : Sizes) (w : List Step) (v : Scene) (c k : ℕ) (y : Reply) (r : Request) (p : SlotUse) → TakesHere u sizes w v c k y r p → has_run r.plan y.body (verdict_of r (retried (client w) p.slot) y) ≡ true → tells_loss r.plan y.body ≡ false
+pub no_loss : (u : Setup) (sizes : Sizes) (w : List Step) (v : Scene) (c k : ℕ) (y : Reply) (r : Request) (p : SlotUse) → TakesHere u sizes w v c k y r p → has_run r.plan y.body (verdict_of r (retried (client w) p.slot) y) ≡ true → tells_loss r.plan y.body ≡ false
 no_loss u sizes w v c k y r p t e =
     let h = t.says.ran e in
     let i = t.scene.server.ran r p (record { placed = t.takes.placed; is_out = t.takes.is_out }) h.0 in
