@@ -12,4 +12,4 @@ pub mod Takes
 pub mod Running
 pub mod Does
 pub mod Run
-pub mod Laws
+pub mod Truth

@@ -286,7 +286,7 @@ put_shown u js v c k r p g l a = record {
       let j : r ≡ q = some_is r q (rw f at e) in
       let m = a.own d x (rw f at i) h in
       subst (λ (y : Way). IsMine (asking v p.slot a.ask) t x y.handle q.plan) (sym (w.ways d)) (
-        subst (λ (y : Request). IsMine (asking v p.slot a.ask) t x (call u.callers js d).way.handle y.plan) j (record { asks = rw f m.0; serves = m.1 }))
+      subst (λ (y : Request). IsMine (asking v p.slot a.ask) t x (call u.callers js d).way.handle y.plan) j (record { asks = rw f m.0; serves = m.1 }))
   mine_at z t d q x h false f e i =
       let m = g.shown.mine z t d q x (rw f at e) (rw f at i) h in
       subst (λ (y : Way). IsMine (asking v p.slot a.ask) t x y.handle q.plan) (sym (w.ways d)) (record { asks = asks_there t f ∙ m.asks; serves = m.serves })

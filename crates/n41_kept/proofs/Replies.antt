@@ -297,7 +297,7 @@ down_outcome n js v s c k g i m xs w h wh wl =
     let d : v.under s ≡ lowers g i m h.acted.0 = h.did ∙ ap (λ (y : Option Stateid). lowering g i m y) h.acted.1 in
     let a = lowered_outcome n js v s c q.handle g i m h.acted.0 q.it w h.standing q.shrunk d q.closer wh wl (is_alone (files n js).opens (Some q.handle)) refl in
     subst (λ (y : Option Stateid). Outcome n js v s c (lowered_by (call n js c).way.handle y (files n js)) w (done_with (closed_value (is_alone (files n js).opens (call n js c).way.handle)))) (sym h.acted.1) (
-      subst (λ (y : Option ℕ). Outcome n js v s c (lowered_by y (Some h.acted.0) (files n js)) w (done_with (closed_value (is_alone (files n js).opens y)))) (sym q.closer.handle) a)
+    subst (λ (y : Option ℕ). Outcome n js v s c (lowered_by y (Some h.acted.0) (files n js)) w (done_with (closed_value (is_alone (files n js).opens y)))) (sym q.closer.handle) a)
 
 close_outcome : (n : ℕ) (js : List Event) (v : Scene) (s c : ℕ) (k : Command) (g : List ℕ) (i : Stateid) (xs : List Res) (w : Way) → Heard n js v s c k (plan.CloseState g i) xs → w.handle ≡ (call n js c).way.handle → Outcome n js v s c (closed_by (call n js c).way.handle (shrunk_stateid xs) (files n js)) w (Some (says.Done value.Closed))
 close_outcome n js v s c k g i xs w h wh =
@@ -305,7 +305,7 @@ close_outcome n js v s c k g i xs w h wh =
     let d : v.under s ≡ closes g i h.acted.0 = h.did ∙ ap (λ (y : Option Stateid). closing g i y) h.acted.1 in
     let a = closed_outcome n js v s c q.handle g i h.acted.0 h.acted.0 q.it w h.standing q.shrunk d q.closer wh in
     subst (λ (y : Option Stateid). Outcome n js v s c (closed_by (call n js c).way.handle y (files n js)) w (Some (says.Done value.Closed))) (sym h.acted.1) (
-      subst (λ (y : Option ℕ). Outcome n js v s c (closed_by y (Some h.acted.0) (files n js)) w (Some (says.Done value.Closed))) (sym q.closer.handle) a)
+    subst (λ (y : Option ℕ). Outcome n js v s c (closed_by y (Some h.acted.0) (files n js)) w (Some (says.Done value.Closed))) (sym q.closer.handle) a)
 
 plain_outcome : (n : ℕ) (js : List Event) (v : Scene) (s c : ℕ) (k : Command) (p : Plan) (xs : List Res) (w : Way) (e : Option Answer) → Heard n js v s c k p xs → deed p xs ≡ nothing → is_close_plan p ≡ false → Outcome n js v s c (Some (files n js)) w e
 plain_outcome n js v s c k p xs w e h d f = still_outcome n js v s c (Some (files n js)) w e h.standing (h.did ∙ d) refl (other_call n js v c v.table v.low w e (not_close_plan n js v s c k p xs h f))

@@ -70,8 +70,8 @@ heard_put v s t l x k e r f q o g = by (told_is v.table.records r q (heard x.seq
   by : ((q ≡ r) × (heard x.seqid (told_of v.table.records r) ≡ o)) ⊎ ((q ≡ r → ⊥) × (lookup (is_id q) v.table.records ≡ Some o)) → IsHeard (took v s t l) q.other o
   by (inl h) =
       subst (λ (z : Told). IsHeard (took v s t l) q.other z) h.1 (
-        subst (λ (z : RecordId). IsHeard (took v s t l) z.other (heard x.seqid (told_of v.table.records r))) (sym h.0) (
-          heard_is (took v s t l) r.other (told_of v.table.records r) x.seqid (sound v.done k.lawful) (before_took v s t l r.other (told_of v.table.records r) (before v k r)) now))
+      subst (λ (z : RecordId). IsHeard (took v s t l) z.other (heard x.seqid (told_of v.table.records r))) (sym h.0) (
+      heard_is (took v s t l) r.other (told_of v.table.records r) x.seqid (sound v.done k.lawful) (before_took v s t l r.other (told_of v.table.records r) (before v k r)) now))
   by (inr h) = heard_took v s t l q.other o (k.heard q o h.1)
 
 -- ---- handles that the reply is not for
