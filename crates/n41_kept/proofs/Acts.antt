@@ -1,5 +1,5 @@
 -- What a run of a plan did, by the status of its last result.
-use Rattle.std.proofs.Common.{Bool, List, None, Option, Some, Ok, Err, Result, [], ap, arith, false, if◌then◌else◌, inl, inr, refl, subst, sym, true, true≢false, not, ℕ, ◌&&◌, ◌||◌, ◌==◌, ◌+◌, ◌<◌, ◌∙◌, ◌∷◌, ◌≡◌, ◌≢◌, ◌≤◌, ◌⊎◌}
+use Rattle.std.proofs.Common.{Bool, List, None, Option, Some, Ok, Err, [], ap, arith, false, inl, inr, refl, subst, sym, true, true≢false, ℕ, ◌==◌, ◌+◌, ◌∙◌, ◌∷◌, ◌≡◌, ◌≢◌, ◌⊎◌}
 use Rattle.std.proofs.lemmas.Bool.{or_parts}
 use Rattle.std.proofs.lemmas.Bool.Decides.{nat_tests}
 use Rattle.std.specs.List.{list_any}
@@ -27,7 +27,7 @@ use Rattle.n41_calls.specs.Values.{reached}
 use Rattle.n41_calls.specs.Files.{open_stateid, shrunk_stateid}
 use Rattle.n41_runs.specs.Rules.{IsRun, is_ok_error}
 use Rattle.n41_runs.specs.Steps.{end_status}
-use Rattle.n41_records.specs.Deeds.{Deed, opens, lowers, closes, nothing, opening, lowering, closing, deed}
+use Rattle.n41_records.specs.Deeds.{nothing, opening, lowering, closing, deed}
 use Rattle.n41_records.proofs.Shapes.{behind_fits, first_fits}
 
 -- a plan that opens, lowers or closes did so exactly where its last result is OK

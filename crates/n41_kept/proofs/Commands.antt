@@ -1,7 +1,5 @@
 -- A command begins, or is answered.
-use Rattle.std.proofs.Common.{◌≡◌, ◌≢◌, ◌⊎◌, inl, inr, ℕ, suc, ◌<◌, ◌≤◌, ◌==◌, Bool, true, false, ◌&&◌, not, List, ◌∷◌, Option, Some, None, if◌then◌else◌, refl, sym, ◌∙◌, ap, subst, arith, true≢false}
-use Rattle.std.specs.Prelude.{is_none, is_some}
-use Rattle.std.proofs.lemmas.Bool.{cases_Bool}
+use Rattle.std.proofs.Common.{◌≡◌, ◌≢◌, ◌⊎◌, inl, inr, ℕ, ◌<◌, ◌≤◌, ◌==◌, Bool, true, false, ◌&&◌, not, List, ◌∷◌, Option, Some, None, if◌then◌else◌, refl, sym, ◌∙◌, ap, subst, arith, true≢false}
 use Rattle.std.proofs.lemmas.Bool.Decides.{nat_tests}
 use Rattle.n41_types.specs.declared.commands.Answer.{Answer}
 use Rattle.n41_types.specs.declared.commands.Answer.TheVariants as says
@@ -17,24 +15,21 @@ use Rattle.n41_journal.specs.declared.events.Event.TheVariants.{Answered, Began}
 use Rattle.n41_opens.specs.declared.handles.Open.{Open}
 use Rattle.n41_opens.specs.Opens.{forgotten, open_of, shrink_at, Table, with_mark}
 use Rattle.n41_model.specs.declared.words.Setup.{Setup}
-use Rattle.n41_model.specs.declared.words.Way.{Way}
-use Rattle.n41_model.specs.Replies.{names_state}
 use Rattle.n41_model.specs.Requests.{moment, out, rounds}
 use Rattle.n41_calls.specs.Answers.{breach_at, HasCause, round_limit}
-use Rattle.n41_calls.specs.Calls.{answered_call, answered_files, began_files, began_on, Call, call, command, either, files, fresh_call, given, handle_given, keeps_seen, named_in, owner, pause_given, seen}
+use Rattle.n41_calls.specs.Calls.{answered_call, began_on, Call, call, command, either, files, fresh_call, given, handle_given, keeps_seen, named_in, owner, pause_given, seen}
 use Rattle.n41_calls.specs.Files.{Files, forgotten_at, marked_at, seen_at, seen_of}
-use Rattle.n41_calls.specs.Kept.{MayAnswer, MayBegin}
 use Rattle.n41_calls.specs.Values.{is_close}
 use Rattle.n41_calls.specs.Walks.{ahead, at_root, is_none_left, label_of, listed_of, Seen, way_of}
-use Rattle.n41_told.proofs.Handles.{Handled, holds, holds_handle}
+use Rattle.n41_told.proofs.Handles.{Handled, holds_handle}
 use Rattle.n41_told.proofs.Tables.{way_handle}
 use Rattle.n41_told.proofs.Telling.{given_idle}
 use Rattle.n41_told.proofs.Told.{GoesOn, Told}
 use Rattle.n41_records.proofs.Sound.{no_some, some_is}
-use Rattle.n41_scenes.specs.Scenes.{Ask, handle_in, Scene, IsKept, showing}
+use Rattle.n41_scenes.specs.Scenes.{handle_in, Scene, IsKept, showing}
 use Rattle.n41_scenes.proofs.Entries.{was_open, without_is}
 use Rattle.n41_scenes.proofs.Show.{forgotten_kept, marked_kept, unmarked_kept}
-use Rattle.n41_kept.proofs.Owners.{IsOwner, owner_is}
+use Rattle.n41_kept.proofs.Owners.{owner_is}
 use Rattle.n41_kept.proofs.Shown.{IsCloseAnswer, IsCloser, IsHandled, IsMine, ShowsClient}
 
 -- what is known of a run where a command begins or is answered

@@ -1,5 +1,5 @@
 -- The client does something, or meets something that is no reply.
-use Rattle.std.proofs.Common.{◌≡◌, ◌≢◌, ◌⊎◌, inl, inr, ℕ, suc, ◌<◌, ◌≤◌, ◌==◌, Bool, true, false, ◌&&◌, List, [], ◌∷◌, Option, Some, None, if◌then◌else◌, refl, sym, ◌∙◌, ap, subst, arith, true≢false}
+use Rattle.std.proofs.Common.{◌≡◌, ◌≢◌, ◌⊎◌, inl, inr, ℕ, suc, ◌<◌, ◌≤◌, ◌==◌, Bool, true, false, List, ◌∷◌, Option, Some, None, if◌then◌else◌, refl, sym, ◌∙◌, ap, subst, arith, true≢false}
 use Rattle.std.proofs.lemmas.Bool.{cases_lt}
 use Rattle.std.proofs.lemmas.Bool.Decides.{nat_tests}
 use Rattle.n41_types.specs.declared.plans.Request.{Request}
@@ -15,7 +15,7 @@ use Rattle.n41_types.specs.Plans.{class_of}
 use Rattle.n41_results.specs.declared.sessions.SessionMade.{SessionMade}
 use Rattle.n41_moves.proofs.Suits.{is_bare_class}
 use Rattle.n41_model.specs.Requests.{first}
-use Rattle.n41_calls.specs.Kept.{Kept, May}
+use Rattle.n41_calls.specs.Kept.{May}
 use Rattle.n41_calls.proofs.Slots.{Seats}
 use Rattle.n41_view.proofs.Found.{no_use}
 use Rattle.n41_view.proofs.Lists.{first_bare}
@@ -25,7 +25,7 @@ use Rattle.n41_moves.proofs.Said.{Said}
 use Rattle.n41_moves.proofs.Single.{given, sid_in, Single}
 use Rattle.n41_served.proofs.Served.{IsOn, Served}
 use Rattle.n41_runs.specs.Rules.{IsNoReply, Sizes}
-use Rattle.n41_runs.specs.Server.{kept, last}
+use Rattle.n41_runs.specs.Server.{last}
 use Rattle.n41_runs.specs.declared.steps.Step.{Step}
 use Rattle.n41_runs.specs.declared.steps.Step.TheVariants.{Does}
 use Rattle.n41_runs.specs.Steps.{client}
@@ -33,16 +33,15 @@ use Rattle.n41_told.proofs.Chosen.{bare_owner, new_owner}
 use Rattle.n41_told.proofs.Handles.{Handled}
 use Rattle.n41_told.proofs.Ledgers.{again_moves, bare_moves, new_moves, put_files, SameLedger}
 use Rattle.n41_told.proofs.Telling.{heard_zero, new_class, some_command}
-use Rattle.n41_told.proofs.Told.{Told}
-use Rattle.n41_records.proofs.Sound.{no_some, some_is}
+use Rattle.n41_records.proofs.Sound.{some_is}
 use Rattle.n41_records.specs.Deeds.{nothing}
-use Rattle.n41_scenes.specs.Scenes.{Ask, asking, ending, IsKept, Scene, showing}
+use Rattle.n41_scenes.specs.Scenes.{Ask, asking, ending, Scene, showing}
 use Rattle.n41_scenes.proofs.Show.{ended_kept}
 use Rattle.n41_kept.proofs.Commands.{answered_has, began_has, HasShown, Standing}
-use Rattle.n41_kept.proofs.Putting.{HasPut, new_put}
+use Rattle.n41_kept.proofs.Putting.{new_put}
 use Rattle.n41_kept.proofs.Quiet.{end_shown, same_shown, SameView}
 use Rattle.n41_kept.proofs.Shown.{IsRan, ShowsClient, ShowsServer}
-use Rattle.n41_kept.proofs.Takes.{Scened, server_stays, ServerStays}
+use Rattle.n41_kept.proofs.Takes.{Scened, server_stays}
 
 -- the scene after a step of the client
 pub record HasScene (u : Setup) (w : List Step) : Type 0 where

@@ -1,5 +1,5 @@
 -- What each final reply to a caller's request does.
-use Rattle.std.proofs.Common.{◌≡◌, ◌≢◌, ◌⊎◌, inl, inr, ℕ, suc, ◌<◌, ◌≤◌, ◌==◌, Bool, true, false, ◌&&◌, ◌||◌, not, List, [], ◌∷◌, Option, Some, None, Ok, Err, if◌then◌else◌, refl, sym, ◌∙◌, ap, subst, arith, true≢false}
+use Rattle.std.proofs.Common.{◌≡◌, ◌≢◌, inl, ℕ, suc, Bool, true, false, List, Option, Some, None, if◌then◌else◌, refl, sym, ◌∙◌, ap, subst, arith, true≢false}
 use Rattle.std.specs.Prelude.{is_some}
 use Rattle.n41_types.specs.declared.commands.Answer.{Answer}
 use Rattle.n41_types.specs.declared.commands.Answer.TheVariants as says
@@ -25,10 +25,10 @@ use Rattle.n41_model.specs.declared.words.Verdict.{Verdict}
 use Rattle.n41_model.specs.declared.words.Verdict.TheVariants as tells
 use Rattle.n41_model.specs.declared.words.Way.{Way}
 use Rattle.n41_model.specs.Replies.{is_breach, is_ok, verdict_of, body_verdict}
-use Rattle.n41_model.specs.Requests.{out, retried, used}
-use Rattle.n41_calls.specs.Calls.{Call, call, command, files, owner, step_of, way_after}
-use Rattle.n41_calls.specs.Files.{Files, files_after, files_in, is_alone}
-use Rattle.n41_calls.specs.Values.{answer_in, done_with, is_again, is_close, is_outdated, refused, value_of}
+use Rattle.n41_model.specs.Requests.{retried, used}
+use Rattle.n41_calls.specs.Calls.{call, command, files, way_after}
+use Rattle.n41_calls.specs.Files.{files_after, is_alone}
+use Rattle.n41_calls.specs.Values.{answer_in, is_again, is_close, is_outdated, refused}
 use Rattle.n41_calls.specs.Walks.{label_of}
 use Rattle.n41_net.proofs.Verdicts.{ends, has_run, is_dropped, is_too_big, run_verdict}
 use Rattle.n41_served.proofs.Served.{IsOn, SaysOn, Served}
@@ -42,11 +42,11 @@ use Rattle.n41_told.proofs.Tables.{found}
 use Rattle.n41_records.specs.Deeds.{deed, nothing}
 use Rattle.n41_records.proofs.Sound.{no_some, some_is}
 use Rattle.n41_scenes.specs.Scenes.{Scene}
-use Rattle.n41_kept.proofs.Acts.{acted, Acted}
+use Rattle.n41_kept.proofs.Acts.{acted}
 use Rattle.n41_kept.proofs.Commands.{Standing}
 use Rattle.n41_kept.proofs.Owners.{IsOwner}
-use Rattle.n41_kept.proofs.Replies.{AfterCall, all_results, Heard, ok_outcome, Outcome, still_outcome}
-use Rattle.n41_kept.proofs.Shown.{IsCloseAnswer, IsCloser, IsMine, IsRan, ShowsClient, ShowsServer}
+use Rattle.n41_kept.proofs.Replies.{AfterCall, ok_outcome, Outcome, still_outcome}
+use Rattle.n41_kept.proofs.Shown.{IsCloseAnswer, IsMine, IsRan, ShowsServer}
 
 -- ---- a call that goes on as it was
 

@@ -1,10 +1,8 @@
 -- Whose each request is that is out, while a run goes on.
-use Rattle.std.proofs.Common.{◌≡◌, ◌≢◌, ◌⊎◌, inl, inr, ℕ, ◌==◌, Bool, true, false, List, Option, Some, None, refl, sym, ◌∙◌, ap, subst, arith, true≢false}
-use Rattle.n41_types.specs.declared.commands.Command.{Command}
-use Rattle.n41_types.specs.declared.plans.Request.{Request}
+use Rattle.std.proofs.Common.{◌≡◌, ◌≢◌, ℕ, true, List, Option, Some, None, refl, sym, ◌∙◌, ap, subst}
 use Rattle.n41_journal.specs.declared.events.Event.{Event}
 use Rattle.n41_model.specs.Requests.{out}
-use Rattle.n41_calls.specs.Calls.{Call, call, command, number, owner}
+use Rattle.n41_calls.specs.Calls.{call, command, number, owner}
 use Rattle.n41_runs.specs.declared.commands.CommandName.{CommandName}
 use Rattle.n41_runs.specs.Effects.{command_on}
 use Rattle.n41_told.proofs.Ledgers.{held}

@@ -1,5 +1,5 @@
 -- What the plans of commands ask for their handles.
-use Rattle.std.proofs.Common.{◌≡◌, ◌≢◌, ◌⊎◌, inl, inr, ℕ, zero, suc, Bool, true, false, ◌&&◌, not, List, [], ◌∷◌, Option, Some, None, if◌then◌else◌, refl, sym, ◌∙◌, ap, subst, true≢false}
+use Rattle.std.proofs.Common.{◌≡◌, ◌⊎◌, inl, inr, ℕ, zero, suc, Bool, true, false, ◌&&◌, not, List, [], ◌∷◌, Option, Some, None, if◌then◌else◌, refl, sym, ◌∙◌, ap, subst, true≢false}
 use Rattle.std.specs.Prelude.{drop, nat_eq}
 use Rattle.std.specs.Cmp.Lexicographic.{pointwise, bytes_decides}
 use Rattle.std.proofs.lemmas.Bool.{and_parts}
@@ -20,14 +20,14 @@ use Rattle.n41_opens.specs.declared.answers.Shrink.{Shrink}
 use Rattle.n41_opens.specs.declared.answers.Shrink.TheVariants.{Keep, Downgrade, Close}
 use Rattle.n41_opens.specs.declared.handles.Open.{Open}
 use Rattle.n41_opens.specs.Modes.{is_less, joined, union}
-use Rattle.n41_opens.specs.Opens.{open_of, others, shrink_at, shrink_by, shrink_in, stateid_in, Table}
+use Rattle.n41_opens.specs.Opens.{open_of, others, shrink_at, shrink_by, stateid_in, Table}
 use Rattle.n41_model.specs.declared.words.Listed.{Listed}
 use Rattle.n41_model.specs.declared.words.Stale.{Stale}
 use Rattle.n41_model.specs.declared.words.Way.{Way}
 use Rattle.n41_model.specs.Replies.{names_state}
 use Rattle.n41_calls.specs.Files.{seen_at, seen_of}
 use Rattle.n41_calls.specs.Values.{is_close}
-use Rattle.n41_calls.specs.Walks.{Seen, Sight, ahead, close, close_after, create, current, file, goal, is_keep, is_plan, last_of, list, list_size, make_dir, next_plan, opening, read, read_most, refresh, remove, rename, resize, shrinks as shrinks_plan, walk_most, walk_or, write, write_most}
+use Rattle.n41_calls.specs.Walks.{Seen, Sight, ahead, close, create, current, file, goal, is_keep, is_plan, last_of, list, list_size, make_dir, next_plan, opening, read, read_most, refresh, remove, rename, resize, shrinks as shrinks_plan, walk_most, walk_or, write, write_most}
 use Rattle.n41_records.proofs.Sound.{no_some, some_is}
 use Rattle.n41_scenes.specs.Scenes.{Ask, quiet, uses, refreshes, shrinks}
 use Rattle.n41_kept.proofs.Shown.{ask_of, is_close_plan, is_shrink}

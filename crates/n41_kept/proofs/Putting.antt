@@ -1,8 +1,6 @@
 -- A new request is put on a slot.
-use Rattle.std.proofs.Common.{◌≡◌, ◌≢◌, ◌⊎◌, inl, inr, ℕ, suc, ◌<◌, ◌≤◌, ◌==◌, Bool, true, false, List, ◌∷◌, Option, Some, None, if◌then◌else◌, refl, sym, ◌∙◌, ap, subst, arith, true≢false}
-use Rattle.std.proofs.lemmas.Bool.{cases_Bool}
+use Rattle.std.proofs.Common.{◌≡◌, ◌≢◌, ◌⊎◌, inl, inr, ℕ, ◌<◌, ◌==◌, Bool, true, false, List, ◌∷◌, Option, Some, None, if◌then◌else◌, refl, sym, ◌∙◌, ap, subst, arith, true≢false}
 use Rattle.std.proofs.lemmas.Bool.Decides.{nat_tests}
-use Rattle.n41_types.specs.declared.commands.Answer.{Answer}
 use Rattle.n41_types.specs.declared.commands.Answer.TheVariants as says
 use Rattle.n41_types.specs.declared.commands.Command.{Command}
 use Rattle.n41_types.specs.declared.identities.Stateid.{Stateid}
@@ -14,7 +12,6 @@ use Rattle.n41_types.specs.declared.spans.Mode.{Mode}
 use Rattle.n41_types.specs.declared.statuses.Status.{Status}
 use Rattle.n41_journal.specs.declared.events.Event.{Event}
 use Rattle.n41_journal.specs.declared.events.Event.TheVariants.{Put}
-use Rattle.n41_opens.specs.declared.answers.Shrink.{Shrink}
 use Rattle.n41_opens.specs.declared.handles.Open.{Open}
 use Rattle.n41_opens.specs.Modes.{union}
 use Rattle.n41_opens.specs.Opens.{open_of, others, shrink_by, stateid_in, Table}
@@ -23,26 +20,25 @@ use Rattle.n41_model.specs.declared.words.Phase.TheVariants.{Running}
 use Rattle.n41_model.specs.declared.words.Setup.{Setup}
 use Rattle.n41_model.specs.declared.words.Way.{Way}
 use Rattle.n41_model.specs.Replies.{names_state}
-use Rattle.n41_model.specs.Requests.{out, rounds}
+use Rattle.n41_model.specs.Requests.{out}
 use Rattle.n41_model.specs.Sessions.{phase}
 use Rattle.n41_calls.specs.Answers.{breach_at}
 use Rattle.n41_calls.specs.Calls.{Call, call, chosen, command, files, in_running, is_caller, ledger, owner, plan_in_call, put_call, sight_of}
 use Rattle.n41_calls.specs.Files.{Files, seen_at}
 use Rattle.n41_calls.specs.Values.{is_close}
 use Rattle.n41_calls.specs.Walks.{Seen, current, file, is_plan, next_plan}
-use Rattle.n41_moves.proofs.Moves.{PutsNew, slot_is}
-use Rattle.n41_moves.proofs.Puts.{ForCaller, NewOn, PutOf}
+use Rattle.n41_moves.proofs.Puts.{ForCaller, NewOn}
 use Rattle.n41_moves.proofs.Suits.{is_own, plan_itself}
-use Rattle.n41_told.proofs.Chosen.{chosen_wants, IsReady, new_owner, owner_ready, wants_chosen, Wants}
-use Rattle.n41_told.proofs.Handles.{Handled, holds, holds_handle}
+use Rattle.n41_told.proofs.Chosen.{chosen_wants, IsReady, new_owner, owner_ready, wants_chosen}
+use Rattle.n41_told.proofs.Handles.{Handled, holds_handle}
 use Rattle.n41_told.proofs.Ledgers.{NewLedger}
 use Rattle.n41_records.proofs.Sound.{no_some, some_is}
 use Rattle.n41_records.specs.Deeds.{nothing}
-use Rattle.n41_scenes.specs.Scenes.{Ask, quiet, uses, refreshes, shrinks, handle_in, Scene, IsKept, IsUsed, asking, at}
-use Rattle.n41_scenes.proofs.Serve.{at_is, here, there}
+use Rattle.n41_scenes.specs.Scenes.{Ask, quiet, uses, shrinks, handle_in, Scene, IsKept, IsUsed, asking, at}
+use Rattle.n41_scenes.proofs.Serve.{there}
 use Rattle.n41_scenes.proofs.Put.{IsFree, IsPut, put_kept, quiet_put, refreshes_put, shrinks_put, uses_put}
 use Rattle.n41_scenes.proofs.Take.{handle_at}
-use Rattle.n41_kept.proofs.Plans.{IsAsking, IsSeen, IsShrinking, Plans, ShrinkIs, named_ask, next_plans, quiet_ask, seen_is, shrink_need}
+use Rattle.n41_kept.proofs.Plans.{IsAsking, IsSeen, Plans, ShrinkIs, named_ask, next_plans, quiet_ask, seen_is, shrink_need}
 use Rattle.n41_kept.proofs.Shown.{ask_by, ask_of, IsCloser, IsHandled, IsMine, Serves, ShowsClient}
 
 -- ---- what a caller that is chosen wants

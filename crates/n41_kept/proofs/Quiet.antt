@@ -1,19 +1,13 @@
 -- What changes no request, no call and no handle leaves the scene.
-use Rattle.std.proofs.Common.{◌≡◌, ◌≢◌, ◌⊎◌, ℕ, ◌<◌, ◌≤◌, Bool, true, false, List, Option, Some, None, refl, sym, ◌∙◌, ap, subst, true≢false}
-use Rattle.n41_types.specs.declared.commands.Answer.{Answer}
-use Rattle.n41_types.specs.declared.commands.Answer.TheVariants as says
+use Rattle.std.proofs.Common.{◌≡◌, ℕ, ◌<◌, ◌≤◌, true, false, List, Option, sym, ◌∙◌, ap, subst, true≢false}
 use Rattle.n41_types.specs.declared.commands.Command.{Command}
-use Rattle.n41_types.specs.declared.plans.Request.{Request}
-use Rattle.n41_types.specs.declared.statuses.Status.{Status}
 use Rattle.n41_journal.specs.declared.events.Event.{Event}
-use Rattle.n41_opens.specs.declared.handles.Open.{Open}
-use Rattle.n41_opens.specs.Opens.{Table, open_of}
 use Rattle.n41_model.specs.Requests.{out, rounds}
 use Rattle.n41_calls.specs.Answers.{round_limit}
 use Rattle.n41_calls.specs.Values.{is_close}
 use Rattle.n41_calls.specs.Files.{Files}
 use Rattle.n41_calls.specs.Calls.{Call, call, command, files, owner}
-use Rattle.n41_scenes.specs.Scenes.{Ask, handle_in, Scene, ending}
+use Rattle.n41_scenes.specs.Scenes.{Scene, ending}
 use Rattle.n41_kept.proofs.Shown.{IsCloser, IsHandled, IsMine, ShowsClient}
 
 -- requests, calls and handles are as they were

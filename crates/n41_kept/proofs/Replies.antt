@@ -1,13 +1,10 @@
 -- What a reply to a caller's request does to its handles.
-use Rattle.std.proofs.Common.{◌≡◌, ◌≢◌, ◌⊎◌, inl, inr, ℕ, suc, ◌<◌, ◌≤◌, ◌==◌, Bool, true, false, ◌&&◌, not, List, [], ◌∷◌, Option, Some, None, Ok, Err, if◌then◌else◌, refl, sym, ◌∙◌, ap, subst, arith, true≢false}
+use Rattle.std.proofs.Common.{◌≡◌, ◌⊎◌, inl, inr, ℕ, suc, ◌≤◌, ◌==◌, Bool, true, false, List, ◌∷◌, Option, Some, None, Ok, if◌then◌else◌, refl, sym, ◌∙◌, ap, subst, arith, true≢false}
 use Rattle.std.proofs.lemmas.Bool.Decides.{nat_tests}
-use Rattle.std.specs.Ordering.{nat_cmp}
-use Rattle.std.specs.BTreeMap.{insert_entry}
 use Rattle.n41_types.specs.declared.commands.Answer.{Answer}
 use Rattle.n41_types.specs.declared.commands.Answer.TheVariants as says
 use Rattle.n41_types.specs.declared.commands.Command.{Command}
 use Rattle.n41_types.specs.declared.commands.Command.TheVariants as asks
-use Rattle.n41_types.specs.declared.commands.Value.{Value}
 use Rattle.n41_types.specs.declared.commands.Value.TheVariants as value
 use Rattle.n41_types.specs.declared.identities.Stateid.{Stateid}
 use Rattle.n41_types.specs.declared.plans.Plan.{Plan}
@@ -16,7 +13,6 @@ use Rattle.n41_types.specs.declared.spans.Mode.{Mode}
 use Rattle.n41_types.specs.declared.spans.Mode.TheVariants.{Both}
 use Rattle.n41_types.specs.declared.statuses.Status.{Status}
 use Rattle.n41_results.specs.declared.replies.Reply.{Reply}
-use Rattle.n41_results.specs.declared.replies.ReplyBody.{ReplyBody}
 use Rattle.n41_results.specs.declared.replies.ReplyBody.TheVariants.{Results}
 use Rattle.n41_results.specs.declared.results.Res.{Res}
 use Rattle.n41_results.specs.declared.results.Res.TheVariants as res
@@ -24,23 +20,22 @@ use Rattle.n41_results.specs.declared.sessions.Sequenced.{Sequenced}
 use Rattle.n41_journal.specs.declared.events.Event.{Event}
 use Rattle.n41_opens.specs.declared.handles.Open.{Open}
 use Rattle.n41_opens.specs.Modes.{union}
-use Rattle.n41_opens.specs.Opens.{applied_in, attach_in, changed_in, forgotten, is_marked, open_of, others, Table, without}
-use Rattle.n41_model.specs.declared.words.Listed.{Listed}
+use Rattle.n41_opens.specs.Opens.{applied_in, attach_in, changed_in, forgotten, is_marked, open_of, others, Table}
 use Rattle.n41_model.specs.declared.words.Way.{Way}
-use Rattle.n41_calls.specs.Calls.{Call, call, command, files, step_of}
+use Rattle.n41_calls.specs.Calls.{call, command, files, step_of}
 use Rattle.n41_calls.specs.Files.{attached_by, closed_by, Files, files_by, is_alone, lowered_by, open_stateid, opened_by, record_named, refreshed_by, shrunk_stateid, with_opens}
 use Rattle.n41_calls.specs.Values.{body_value, closed_value, done_with, is_close, opened_value, reached}
 use Rattle.n41_records.specs.Deeds.{closes, change_in, closing, Deed, deed, lowering, lowers, nothing, opening, opens}
 use Rattle.n41_records.proofs.Sound.{no_some, some_is, sound}
-use Rattle.n41_scenes.specs.Scenes.{Ask, at, handle_in, IsKept, quiet, refreshes, Scene, shrinks, took}
-use Rattle.n41_scenes.proofs.Serve.{here, there}
+use Rattle.n41_scenes.specs.Scenes.{Ask, at, handle_in, IsKept, refreshes, Scene, shrinks, took}
+use Rattle.n41_scenes.proofs.Serve.{here}
 use Rattle.n41_scenes.proofs.Entries.{put_is, without_is}
 use Rattle.n41_scenes.proofs.Take.{took_nothing}
 use Rattle.n41_scenes.proofs.Attach.{IsOpened, opened_attaches, opened_kept, table_opened}
 use Rattle.n41_scenes.proofs.Shrink.{alone_by, applied_close, applied_lower, changed_some, closed_alone, closed_kept, IsShrunk, low_kept, lowered_kept, table_changed}
-use Rattle.n41_kept.proofs.Acts.{Did, DidOpen, DidShrink}
+use Rattle.n41_kept.proofs.Acts.{Did, DidOpen}
 use Rattle.n41_kept.proofs.Commands.{Standing}
-use Rattle.n41_kept.proofs.Shown.{ask_by, is_close_plan, is_shrink, IsCloseAnswer, IsCloser, IsMine, Serves, ShowsClient}
+use Rattle.n41_kept.proofs.Shown.{ask_by, is_close_plan, is_shrink, IsCloseAnswer, IsCloser, IsMine}
 
 -- the call of the caller after the reply: its way, and what it earned
 pub record AfterCall (n : ℕ) (js : List Event) (v : Scene) (c : ℕ) (t : Table) (l : ℕ → Bool) (w : Way) (e : Option Answer) : Type 0 where

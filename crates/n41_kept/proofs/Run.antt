@@ -1,5 +1,5 @@
 -- The scene of each legal run whose client keeps its rules; and no reply that is taken is a breach.
-use Rattle.std.proofs.Common.{◌≡◌, ◌≢◌, ◌⊎◌, inl, inr, ℕ, suc, ◌<◌, ◌≤◌, ◌==◌, Bool, true, false, ◌&&◌, ◌||◌, List, [], ◌∷◌, length, Option, Some, None, if◌then◌else◌, refl, sym, ◌∙◌, ap, subst, arith, true≢false}
+use Rattle.std.proofs.Common.{◌≡◌, ◌⊎◌, inl, inr, ℕ, ◌<◌, Bool, true, false, List, [], ◌∷◌, Option, Some, None, refl, sym, ◌∙◌, ap, subst, arith, true≢false}
 use Rattle.n41_types.specs.declared.identities.SessionId.{SessionId}
 use Rattle.n41_types.specs.declared.plans.Request.{Request}
 use Rattle.n41_types.specs.declared.plans.SlotUse.{SlotUse}
@@ -15,11 +15,11 @@ use Rattle.n41_model.specs.declared.words.Setup.{Setup}
 use Rattle.n41_model.specs.declared.words.Verdict.{Verdict}
 use Rattle.n41_model.specs.declared.words.Verdict.TheVariants as tells
 use Rattle.n41_model.specs.Replies.{bare_verdict_of, is_breach, verdict_of}
-use Rattle.n41_model.specs.Requests.{bare_verdict, out, retried, rounds, used, verdict, verdict_in, verdict_on}
-use Rattle.n41_calls.specs.Answers.{breach_at, breaks, misleads, place_or, round_limit}
+use Rattle.n41_model.specs.Requests.{bare_verdict, retried, rounds, verdict, verdict_in, verdict_on}
+use Rattle.n41_calls.specs.Answers.{breach_at, breaks, round_limit}
 use Rattle.n41_calls.specs.Files.{no_files}
 use Rattle.n41_calls.specs.Kept.{Kept}
-use Rattle.n41_calls.proofs.Slots.{Seats, seats}
+use Rattle.n41_calls.proofs.Slots.{seats}
 use Rattle.n41_view.proofs.Known.{known}
 use Rattle.n41_moves.proofs.Moves.{TakesBare, TakesOn, takes_is}
 use Rattle.n41_moves.proofs.Said.{last_put, said}
@@ -27,7 +27,6 @@ use Rattle.n41_moves.proofs.Single.{given, Single, single}
 use Rattle.n41_net.proofs.Lives.{Lives, lives}
 use Rattle.n41_net.proofs.Net.{last_bare, net, taken_is, TakenIs}
 use Rattle.n41_net.proofs.Verdicts.{has_run}
-use Rattle.n41_served.proofs.Served.{IsOn, SaysOn, Served}
 use Rattle.n41_served.proofs.Running.{run_is_next}
 use Rattle.n41_served.proofs.Taking.{served}
 use Rattle.n41_told.proofs.Telling.{handled, told, waiting}
@@ -38,7 +37,7 @@ use Rattle.n41_breaches.proofs.Parted.{Parted, parted, put_end}
 use Rattle.n41_breaches.proofs.Serving.{sid_some}
 use Rattle.n41_runs.specs.OpenRules.{tells_loss}
 use Rattle.n41_runs.specs.Rules.{IsNoReply, LegalBy, MayBeTaken, Sizes}
-use Rattle.n41_runs.specs.Server.{alive, kept, last, was_made}
+use Rattle.n41_runs.specs.Server.{alive, was_made}
 use Rattle.n41_runs.specs.declared.steps.Step.{Step}
 use Rattle.n41_runs.specs.declared.steps.Step.TheVariants.{Does, Takes, Runs}
 use Rattle.n41_runs.specs.Steps.{client, fate, ran_reply}

@@ -1,6 +1,5 @@
 -- A request runs: client and server.
-use Rattle.std.proofs.Common.{◌≡◌, ◌≢◌, ◌⊎◌, inl, inr, ℕ, suc, ◌<◌, ◌≤◌, ◌==◌, Bool, true, false, ◌&&◌, List, [], ◌∷◌, Option, Some, None, if◌then◌else◌, refl, sym, ◌∙◌, ap, subst, arith, true≢false}
-use Rattle.std.proofs.lemmas.Bool.{and_parts}
+use Rattle.std.proofs.Common.{◌≡◌, ◌≢◌, ℕ, ◌==◌, Bool, true, false, ◌&&◌, List, ◌∷◌, Option, Some, None, if◌then◌else◌, refl, sym, ◌∙◌, ap, subst, arith, true≢false}
 use Rattle.std.proofs.lemmas.Bool.Decides.{nat_tests}
 use Rattle.n41_types.specs.declared.identities.Stateid.{Stateid}
 use Rattle.n41_types.specs.declared.plans.Plan.{Plan}
@@ -10,11 +9,9 @@ use Rattle.n41_types.specs.declared.plans.SlotUse.{SlotUse}
 use Rattle.n41_types.specs.declared.spans.Mode.{Mode}
 use Rattle.n41_types.specs.declared.spans.Mode.TheVariants.{Both}
 use Rattle.n41_types.specs.declared.statuses.Status.{Status}
-use Rattle.n41_results.specs.declared.replies.ReplyBody.{ReplyBody}
 use Rattle.n41_results.specs.declared.results.Res.{Res}
 use Rattle.n41_results.specs.declared.sessions.Sequenced.{Sequenced}
 use Rattle.n41_results.specs.Results.{ok}
-use Rattle.n41_journal.specs.declared.events.Event.{Event}
 use Rattle.n41_model.specs.declared.words.Setup.{Setup}
 use Rattle.n41_model.specs.Replies.{is_loss, names_state}
 use Rattle.n41_model.specs.Requests.{out, used}
@@ -24,18 +21,18 @@ use Rattle.n41_served.proofs.Served.{IsOn}
 use Rattle.n41_served.proofs.Running.{here_is, IsNext, runs_kept, runs_last, there_is}
 use Rattle.n41_runs.specs.Records.{named_record, OpenRecord, with_other}
 use Rattle.n41_runs.specs.OpenRules.{IsBeyond, KeepsRecords, TellsLoss, tells_loss}
-use Rattle.n41_runs.specs.Rules.{IsRun, MayRun, Sizes}
+use Rattle.n41_runs.specs.Rules.{IsRun}
 use Rattle.n41_runs.specs.Server.{is_session, kept, last}
 use Rattle.n41_runs.specs.declared.steps.Step.{Step}
 use Rattle.n41_runs.specs.declared.steps.Step.TheVariants.{Runs}
 use Rattle.n41_runs.specs.Steps.{client, end_status, ran_reply}
-use Rattle.n41_records.specs.Deeds.{closing, Deed, deed, deeds, lowering, nothing, opening, owner_of, record_at, record_by_owner, record_named, MayFollow, Stands}
+use Rattle.n41_records.specs.Deeds.{closing, Deed, deed, deeds, lowering, nothing, opening, owner_of, record_by_owner, record_named, MayFollow}
 use Rattle.n41_records.proofs.Sound.{no_some, same_as, some_is, sound}
 use Rattle.n41_records.proofs.Bridge.{Bridged, may_follow, named_is_by}
-use Rattle.n41_scenes.specs.Scenes.{Ask, at, Fits, handle_in, IsKept, Scene, served, shrinks}
+use Rattle.n41_scenes.specs.Scenes.{Ask, at, Fits, IsKept, Scene, served, shrinks}
 use Rattle.n41_scenes.proofs.Serve.{here, IsServe, served_kept, there}
 use Rattle.n41_scenes.proofs.Named.{IsNamed, shrinks_named, uses_named}
-use Rattle.n41_kept.proofs.Shown.{ask_of, IsMine, IsRan, ShowsClient, ShowsServer}
+use Rattle.n41_kept.proofs.Shown.{ask_of, IsRan, ShowsClient, ShowsServer}
 use Rattle.n41_kept.proofs.Takes.{Scened}
 
 -- ---- no record is lost

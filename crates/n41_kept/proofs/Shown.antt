@@ -9,7 +9,6 @@ use Rattle.n41_types.specs.declared.plans.Plan.TheVariants as plan
 use Rattle.n41_types.specs.declared.plans.Request.{Request}
 use Rattle.n41_types.specs.declared.plans.SlotUse.{SlotUse}
 use Rattle.n41_types.specs.declared.statuses.Status.{Status}
-use Rattle.n41_results.specs.declared.replies.ReplyBody.{ReplyBody}
 use Rattle.n41_results.specs.declared.results.Res.{Res}
 use Rattle.n41_results.specs.declared.sessions.Sequenced.{Sequenced}
 use Rattle.n41_journal.specs.declared.events.Event.{Event}
@@ -26,7 +25,7 @@ use Rattle.n41_runs.specs.Rules.{IsRun}
 use Rattle.n41_runs.specs.Server.{kept, last}
 use Rattle.n41_runs.specs.declared.steps.Step.{Step}
 use Rattle.n41_runs.specs.Steps.{client, ran_reply}
-use Rattle.n41_records.specs.Deeds.{Deed, nothing, deed, deeds}
+use Rattle.n41_records.specs.Deeds.{nothing, deed, deeds}
 use Rattle.n41_scenes.specs.Scenes.{Ask, quiet, uses, refreshes, shrinks, handle_in, Scene}
 
 -- ---- what a request asks for a handle

@@ -1,9 +1,7 @@
 -- A reply is taken: client and server.
-use Rattle.std.proofs.Common.{◌≡◌, ◌≢◌, ◌⊎◌, inl, inr, ℕ, suc, ◌<◌, ◌≤◌, ◌==◌, ◌-◌, Bool, true, false, ◌&&◌, ◌||◌, not, List, [], ◌∷◌, Option, Some, None, if◌then◌else◌, refl, sym, ◌∙◌, ap, subst, arith, true≢false}
+use Rattle.std.proofs.Common.{◌≡◌, ◌≢◌, ◌⊎◌, inl, inr, ℕ, suc, ◌<◌, ◌≤◌, ◌==◌, ◌-◌, Bool, true, false, ◌&&◌, List, ◌∷◌, Option, Some, None, if◌then◌else◌, refl, sym, ◌∙◌, ap, subst, arith, true≢false}
 use Rattle.std.specs.Prelude.{is_none, is_some}
-use Rattle.std.proofs.lemmas.Bool.{cases_Bool}
 use Rattle.std.proofs.lemmas.Bool.Decides.{nat_tests}
-use Rattle.n41_types.specs.declared.commands.Answer.{Answer}
 use Rattle.n41_types.specs.declared.commands.Command.{Command}
 use Rattle.n41_types.specs.declared.plans.Request.{Request}
 use Rattle.n41_types.specs.declared.plans.SlotUse.{SlotUse}
@@ -17,7 +15,7 @@ use Rattle.n41_model.specs.declared.words.Setup.{Setup}
 use Rattle.n41_model.specs.declared.words.Verdict.{Verdict}
 use Rattle.n41_model.specs.declared.words.Way.{Way}
 use Rattle.n41_model.specs.Replies.{gives_back, is_final, verdict_of}
-use Rattle.n41_model.specs.Requests.{made, out, request, retried, rounds, used}
+use Rattle.n41_model.specs.Requests.{made, out, retried, used}
 use Rattle.n41_calls.specs.Answers.{asker, misleads, round_limit}
 use Rattle.n41_calls.specs.Calls.{Call, call, command, files, files_told, is_caller, ledger, owner, owner_at, slot_in, stale_now}
 use Rattle.n41_calls.specs.Files.{Files, files_or, is_alone, seen_at}
@@ -30,7 +28,7 @@ use Rattle.n41_moves.proofs.Moves.{bare_took, bare_took_used, TakesBare, TakesOn
 use Rattle.n41_model.specs.declared.words.Verdict.TheVariants as delays
 use Rattle.n41_model.specs.Requests.{slot_number}
 use Rattle.n41_moves.proofs.Said.{gives_final, made_first, none_out}
-use Rattle.n41_moves.proofs.Single.{given, Single}
+use Rattle.n41_moves.proofs.Single.{Single}
 use Rattle.n41_net.proofs.Verdicts.{ends, final_is}
 use Rattle.n41_served.proofs.Served.{IsOn, SaysOn, Served}
 use Rattle.n41_runs.specs.Rules.{Sizes}
@@ -39,19 +37,17 @@ use Rattle.n41_runs.specs.declared.steps.Step.{Step}
 use Rattle.n41_runs.specs.declared.steps.Step.TheVariants.{Takes}
 use Rattle.n41_runs.specs.Steps.{client}
 use Rattle.n41_told.proofs.Ledgers.{told_on, told_one, took_call_bare, took_call_on, took_files_bare, took_one}
-use Rattle.n41_told.proofs.Told.{caller_is, GoesOn}
 use Rattle.n41_records.specs.Deeds.{closes, Deed, deeds, lowers, nothing, opens}
-use Rattle.n41_records.proofs.Sound.{no_some, some_is}
-use Rattle.n41_scenes.specs.Scenes.{Ask, at, Fits, handle_in, IsKept, quiet, Scene, shrinks, took}
+use Rattle.n41_records.proofs.Sound.{no_some}
+use Rattle.n41_scenes.specs.Scenes.{Ask, Fits, handle_in, IsKept, Scene, took}
 use Rattle.n41_scenes.proofs.Serve.{there}
-use Rattle.n41_scenes.proofs.Take.{apart_nothing, apart_opens, backed_took, heard_took, IsApart, IsTook, took_kept}
+use Rattle.n41_scenes.proofs.Take.{apart_nothing, apart_opens, backed_took, heard_took, IsApart, took_kept}
 use Rattle.n41_kept.proofs.Commands.{Standing}
-use Rattle.n41_kept.proofs.Outcomes.{Comes, Final, final_comes}
+use Rattle.n41_kept.proofs.Outcomes.{Comes, final_comes}
 use Rattle.n41_kept.proofs.Owners.{IsOwner, one_out, owner_is}
 use Rattle.n41_kept.proofs.Quiet.{same_shown, SameView}
-use Rattle.n41_kept.proofs.Replies.{AfterCall, Outcome}
-use Rattle.n41_kept.proofs.Shown.{IsCloser, IsMine, IsRan, ShowsClient, ShowsServer}
-use Rattle.n41_kept.proofs.Taking.{IsReplied, Replied, took_shown}
+use Rattle.n41_kept.proofs.Shown.{IsCloser, ShowsClient, ShowsServer}
+use Rattle.n41_kept.proofs.Taking.{IsReplied, took_shown}
 
 -- ---- the server's side, where slots empty or stay
 

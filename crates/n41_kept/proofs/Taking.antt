@@ -1,26 +1,23 @@
 -- A reply is taken: the scene of the client.
-use Rattle.std.proofs.Common.{◌≡◌, ◌≢◌, ◌⊎◌, inl, inr, ℕ, suc, ◌<◌, ◌≤◌, ◌==◌, Bool, true, false, ◌&&◌, not, List, [], ◌∷◌, Option, Some, None, if◌then◌else◌, refl, sym, ◌∙◌, ap, subst, arith, true≢false}
+use Rattle.std.proofs.Common.{◌≡◌, ◌≢◌, ◌⊎◌, inl, inr, ℕ, suc, ◌<◌, ◌≤◌, ◌==◌, Bool, true, false, List, Option, Some, None, if◌then◌else◌, refl, sym, ◌∙◌, ap, subst, arith, true≢false}
 use Rattle.std.proofs.lemmas.Bool.Decides.{nat_tests}
 use Rattle.n41_types.specs.declared.commands.Answer.{Answer}
 use Rattle.n41_types.specs.declared.commands.Answer.TheVariants as says
 use Rattle.n41_types.specs.declared.commands.Command.{Command}
 use Rattle.n41_types.specs.declared.plans.Request.{Request}
 use Rattle.n41_types.specs.declared.statuses.Status.{Status}
-use Rattle.n41_results.specs.declared.replies.Reply.{Reply}
 use Rattle.n41_journal.specs.declared.events.Event.{Event}
-use Rattle.n41_journal.specs.declared.events.Event.TheVariants.{Took}
 use Rattle.n41_opens.specs.declared.handles.Open.{Open}
 use Rattle.n41_opens.specs.Opens.{open_of, Table}
 use Rattle.n41_model.specs.Replies.{names_state}
 use Rattle.n41_model.specs.Requests.{out, rounds}
 use Rattle.n41_calls.specs.Calls.{Call, call, command, files, owner}
-use Rattle.n41_calls.specs.Files.{Files}
 use Rattle.n41_calls.specs.Values.{is_close}
-use Rattle.n41_told.proofs.Handles.{Handled, holds_handle}
-use Rattle.n41_records.proofs.Sound.{no_some, some_is}
+use Rattle.n41_told.proofs.Handles.{holds_handle}
+use Rattle.n41_records.proofs.Sound.{no_some}
 use Rattle.n41_records.specs.Deeds.{nothing}
-use Rattle.n41_scenes.specs.Scenes.{Ask, quiet, handle_in, Scene, IsKept, at, took}
-use Rattle.n41_scenes.proofs.Serve.{here, there}
+use Rattle.n41_scenes.specs.Scenes.{Ask, quiet, handle_in, Scene, at, took}
+use Rattle.n41_scenes.proofs.Serve.{there}
 use Rattle.n41_scenes.proofs.Take.{handle_at}
 use Rattle.n41_kept.proofs.Commands.{Standing}
 use Rattle.n41_kept.proofs.Shown.{ask_of, IsCloseAnswer, IsCloser, IsHandled, IsMine, ShowsClient}

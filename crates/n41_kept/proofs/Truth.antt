@@ -1,6 +1,6 @@
 -- The laws: open records stay, and replies tell the truth of them.
-use Rattle.std.proofs.Common.{◌≡◌, ◌≢◌, ◌⊎◌, inl, inr, ℕ, suc, ◌<◌, ◌≤◌, ◌==◌, Bool, true, false, ◌&&◌, ◌||◌, List, [], ◌∷◌, Option, Some, None, Ok, Err, if◌then◌else◌, refl, sym, ◌∙◌, ap, subst, arith, true≢false}
-use Rattle.std.proofs.lemmas.Bool.{and_from, and_parts, or_cases}
+use Rattle.std.proofs.Common.{◌≡◌, ◌⊎◌, inl, inr, ℕ, ◌==◌, Bool, true, false, ◌&&◌, List, [], ◌∷◌, Option, Some, None, Ok, Err, if◌then◌else◌, refl, sym, ◌∙◌, ap, subst, arith, true≢false}
+use Rattle.std.proofs.lemmas.Bool.{and_from, and_parts}
 use Rattle.std.proofs.lemmas.Bool.Decides.{nat_tests}
 use Rattle.n41_types.specs.declared.identities.SessionId.{SessionId}
 use Rattle.n41_types.specs.declared.plans.Plan.{Plan}
@@ -12,30 +12,25 @@ use Rattle.n41_types.specs.declared.statuses.Status.{Status}
 use Rattle.n41_types.specs.Plans.{class_of}
 use Rattle.n41_results.specs.declared.replies.Reply.{Reply}
 use Rattle.n41_results.specs.declared.replies.ReplyBody.{ReplyBody}
-use Rattle.n41_results.specs.declared.replies.ReplyBody.TheVariants.{Denied, Rejected, Results}
+use Rattle.n41_results.specs.declared.replies.ReplyBody.TheVariants.{Results}
 use Rattle.n41_results.specs.declared.results.Res.{Res}
 use Rattle.n41_results.specs.declared.results.Res.TheVariants as res
 use Rattle.n41_results.specs.Results.{ok}
 use Rattle.n41_results.specs.Shapes.{shape_of}
-use Rattle.n41_results.specs.declared.sessions.SessionMade.{SessionMade}
-use Rattle.n41_results.specs.declared.sessions.Sequenced.{Sequenced}
 use Rattle.n41_journal.specs.declared.events.Event.{Event}
-use Rattle.n41_opens.specs.declared.answers.Shrink.{Shrink}
 use Rattle.n41_opens.specs.declared.handles.Open.{Open}
-use Rattle.n41_opens.specs.Opens.{is_marked, open_of, shrink_at, shrink_in, Table}
+use Rattle.n41_opens.specs.Opens.{is_marked, open_of, shrink_at, Table}
 use Rattle.n41_model.specs.declared.words.Setup.{Setup}
-use Rattle.n41_model.specs.declared.words.Verdict.{Verdict}
 use Rattle.n41_model.specs.declared.words.Verdict.TheVariants as tells
-use Rattle.n41_model.specs.Replies.{is_delay, is_loss, is_not_bound, is_size_refusal, is_uncached, is_unlawful, names_state, ran_verdict, refused_verdict, repeats, sequenced_verdict, uncached_verdict, verdict_of, body_verdict}
+use Rattle.n41_model.specs.Replies.{is_delay, is_loss, is_not_bound, is_size_refusal, is_uncached, is_unlawful, names_state, ran_verdict, refused_verdict, repeats, sequenced_verdict, verdict_of, body_verdict}
 use Rattle.n41_model.specs.Requests.{request, retried}
-use Rattle.n41_model.specs.Sessions.{plan_in, plan_of}
+use Rattle.n41_model.specs.Sessions.{plan_in}
 use Rattle.n41_calls.specs.Calls.{files}
-use Rattle.n41_calls.specs.Files.{seen_at, seen_of}
+use Rattle.n41_calls.specs.Files.{seen_of}
 use Rattle.n41_calls.specs.Kept.{Kept}
-use Rattle.n41_calls.specs.Walks.{Seen}
 use Rattle.n41_calls.proofs.Slots.{seats}
 use Rattle.n41_view.proofs.Known.{known}
-use Rattle.n41_moves.proofs.Moves.{TakesBare, TakesOn, takes_is}
+use Rattle.n41_moves.proofs.Moves.{takes_is}
 use Rattle.n41_moves.proofs.Suits.{is_bare_class}
 use Rattle.n41_net.proofs.Net.{net, taken_is, TakenIs}
 use Rattle.n41_net.proofs.Verdicts.{has_run}
@@ -46,15 +41,13 @@ use Rattle.n41_runs.specs.Records.{covers, open_record, OpenRecord, same_bytes}
 use Rattle.n41_runs.specs.Rules.{is_uncached_body, LegalBy, MayBeTaken, MayMakeAgain, MayRepeat, Sizes}
 use Rattle.n41_runs.specs.Server.{is_at, kept}
 use Rattle.n41_runs.specs.declared.steps.Step.{Step}
-use Rattle.n41_runs.specs.declared.steps.Step.TheVariants.{Does, Takes, Runs, Repeats, Refuses, Names, Makes, Binds, Ends}
+use Rattle.n41_runs.specs.declared.steps.Step.TheVariants.{Takes, Runs, Repeats, Refuses, Names, Makes, Binds, Ends}
 use Rattle.n41_runs.specs.Steps.{bound_reply, client, ended_reply, fate, made_reply, named_reply, ran_reply, refusal, refusal_by, refused_result}
 use Rattle.n41_records.specs.Deeds.{Deed, Holds, record_at}
 use Rattle.n41_records.proofs.Bridge.{record_is}
 use Rattle.n41_records.proofs.Sound.{no_some, same_as, some_is}
-use Rattle.n41_scenes.specs.Scenes.{Scene}
 use Rattle.n41_scenes.proofs.Named.{unmarked_holds}
-use Rattle.n41_kept.proofs.Run.{here_of, no_loss, so_far, SoFar, take_of, TookFine}
-use Rattle.n41_kept.proofs.Takes.{TakesHere}
+use Rattle.n41_kept.proofs.Run.{here_of, no_loss, so_far, SoFar, take_of}
 
 -- ---- open records stay
 

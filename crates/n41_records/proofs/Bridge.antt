@@ -1,5 +1,5 @@
 -- What the steps of a legal run do to open records is a lawful list of deeds.
-use Rattle.std.proofs.Common.{Bool, List, None, Option, Some, [], ap, arith, false, if◌then◌else◌, inl, inr, refl, subst, sym, true, true≢false, ℕ, ◌&&◌, ◌||◌, ◌<◌, ◌∙◌, ◌∷◌, ◌≡◌, ◌≢◌, ◌≤◌, ◌⊎◌}
+use Rattle.std.proofs.Common.{Bool, List, None, Option, Some, [], ap, false, if◌then◌else◌, refl, subst, sym, true, true≢false, ℕ, ◌&&◌, ◌||◌, ◌∙◌, ◌∷◌, ◌≡◌}
 use Rattle.n41_types.specs.declared.identities.Stateid.{Stateid}
 use Rattle.n41_types.specs.declared.plans.Plan.{Plan}
 use Rattle.n41_types.specs.declared.plans.Plan.TheVariants as plan
@@ -12,13 +12,13 @@ use Rattle.n41_results.specs.declared.sessions.Sequenced.{Sequenced}
 use Rattle.n41_results.specs.Shapes.{operations_of, shape_from}
 use Rattle.n41_calls.specs.Values.{reached}
 use Rattle.n41_calls.specs.Files.{open_stateid, shrunk_stateid}
-use Rattle.n41_runs.specs.Records.{OpenRecord, allows, is_other, is_told, opened, lowered, closed, named_record, open_record, opener, opener_in, gives, record_by, record_of_owner, same_bytes, was_given, with_other}
+use Rattle.n41_runs.specs.Records.{OpenRecord, is_other, is_told, opened, lowered, closed, named_record, open_record, opener, opener_in, gives, record_by, record_of_owner, same_bytes, was_given, with_other}
 use Rattle.n41_runs.specs.OpenRules.{IsOpening, Opens, Lowers, Closes, KeepsRecords}
 use Rattle.n41_runs.specs.Rules.{LegalBy, MayRun, Sizes}
 use Rattle.n41_runs.specs.declared.steps.Step.{Step}
 use Rattle.n41_runs.specs.declared.steps.Step.TheVariants.{Runs}
-use Rattle.n41_records.specs.Deeds.{Deed, opens, lowers, closes, nothing, opening, lowering, closing, deed, deeds, done_to, record_at, record_by_owner, record_named, gave, given, owner_in, owner_of, MayOpen, MayFollow, Lawful}
-use Rattle.n41_records.proofs.Shapes.{behind_fits, no_stateid, opens_file}
+use Rattle.n41_records.specs.Deeds.{Deed, opening, lowering, closing, deed, deeds, done_to, record_at, record_by_owner, record_named, gave, given, owner_in, owner_of, MayOpen, MayFollow, Lawful}
+use Rattle.n41_records.proofs.Shapes.{behind_fits, no_stateid}
 
 -- ---- records
 

@@ -1,11 +1,11 @@
 -- A record that was closed does not come back.
-use Rattle.std.proofs.Common.{Bool, List, None, Option, Some, [], ap, arith, false, if◌then◌else◌, inl, inr, refl, subst, sym, true, true≢false, ℕ, ◌&&◌, ◌||◌, ◌<◌, ◌∙◌, ◌∷◌, ◌≡◌, ◌≢◌, ◌≤◌, ◌⊎◌}
+use Rattle.std.proofs.Common.{List, None, Option, Some, ap, false, inl, inr, refl, subst, sym, true, true≢false, ℕ, ◌&&◌, ◌∙◌, ◌∷◌, ◌≡◌, ◌≤◌, ◌⊎◌}
 use Rattle.std.proofs.lemmas.Bool.{and_from, or_right}
 use Rattle.n41_types.specs.declared.identities.Stateid.{Stateid}
 use Rattle.n41_types.specs.declared.spans.Mode.{Mode}
 use Rattle.n41_runs.specs.Records.{OpenRecord, same_bytes, is_other}
 use Rattle.n41_runs.specs.OpenRules.{IsNext}
-use Rattle.n41_records.specs.Deeds.{Deed, opens, lowers, closes, nothing, once_opened, once_lowered, record_at, gave, given, IsTold, IsEnded, MayOpen, MayFollow, AreSound}
+use Rattle.n41_records.specs.Deeds.{Deed, opens, lowers, closes, nothing, once_opened, once_lowered, record_at, given, IsTold, IsEnded, MayOpen, MayFollow, AreSound}
 use Rattle.n41_records.proofs.Sound.{closed_told, if_is, lowered_is, lowering_is, named_same, no_some, nothing_told, same_as, some_is}
 use Rattle.n41_records.proofs.Stays.{IsCurrent, closes_current, current_latest}
 

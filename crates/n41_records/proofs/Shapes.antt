@@ -1,6 +1,6 @@
 -- Which results a legal run of a plan has: an OPEN answers only where one was asked.
-use Rattle.std.proofs.Common.{Bool, List, None, Option, Some, Ok, Err, [], ap, arith, false, if◌then◌else◌, inl, inr, length, refl, replicate, subst, sym, true, true≢false, ℕ, ◌&&◌, ◌||◌, ◌==◌, ◌+◌, ◌++◌, ◌<◌, ◌∙◌, ◌∷◌, ◌≡◌, ◌≢◌, ◌≤◌, ◌⊎◌}
-use Rattle.std.proofs.lemmas.Bool.{or_parts, or_from}
+use Rattle.std.proofs.Common.{Bool, List, None, Option, Some, Ok, Err, [], ap, arith, false, if◌then◌else◌, inl, inr, length, refl, replicate, subst, true, true≢false, ℕ, ◌==◌, ◌+◌, ◌++◌, ◌∙◌, ◌∷◌, ◌≡◌, ◌≢◌, ◌⊎◌}
+use Rattle.std.proofs.lemmas.Bool.{or_parts}
 use Rattle.std.proofs.lemmas.Bool.Decides.{nat_tests}
 use Rattle.std.specs.List.{list_any}
 use Rattle.n41_types.specs.Operations.{number as op_number}

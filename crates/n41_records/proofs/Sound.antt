@@ -1,13 +1,13 @@
 -- Each record is sound, by induction over what was done.
-use Rattle.std.proofs.Common.{Bool, List, None, Option, Some, [], ap, arith, false, if◌then◌else◌, inl, inr, refl, subst, sym, suc, true, true≢false, ℕ, ◌&&◌, ◌||◌, ◌<◌, ◌∙◌, ◌∷◌, ◌≡◌, ◌≢◌, ◌≤◌, ◌⊎◌}
-use Rattle.std.proofs.lemmas.Bool.{or_cases, and_parts, and_from, or_right, or_left, false_from_ne_true}
+use Rattle.std.proofs.Common.{Bool, List, None, Option, Some, [], ap, arith, false, if◌then◌else◌, inl, inr, refl, subst, sym, suc, true, true≢false, ℕ, ◌&&◌, ◌<◌, ◌∙◌, ◌∷◌, ◌≡◌, ◌≤◌, ◌⊎◌}
+use Rattle.std.proofs.lemmas.Bool.{and_parts, and_from, or_right, or_left, false_from_ne_true}
 use Rattle.std.specs.Cmp.Lexicographic.{bytes_decides}
 use Rattle.n41_types.specs.declared.identities.Stateid.{Stateid}
 use Rattle.n41_types.specs.declared.spans.Mode.{Mode}
 use Rattle.std.specs.List.{filter}
 use Rattle.n41_runs.specs.Records.{OpenRecord, allows, same_bytes, is_other, with_other}
-use Rattle.n41_runs.specs.OpenRules.{IsNext, Lowers, Closes, change_limit}
-use Rattle.n41_records.specs.Deeds.{Deed, opens, lowers, closes, nothing, done_to, once_opened, once_lowered, record_at, record_named, record_by_owner, gave, given, owner_in, owner_of, file_in, file_of, change_in, IsTold, MayOpen, MayFollow, Lawful, IsGiven, IsSound, AreSound}
+use Rattle.n41_runs.specs.OpenRules.{IsNext, Lowers, change_limit}
+use Rattle.n41_records.specs.Deeds.{Deed, opens, lowers, closes, nothing, once_opened, once_lowered, record_at, record_named, record_by_owner, gave, given, owner_of, file_of, IsTold, MayOpen, MayFollow, Lawful, IsGiven, IsSound, AreSound}
 
 -- ---- bytes, options and tests
 

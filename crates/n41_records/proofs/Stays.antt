@@ -1,15 +1,15 @@
 -- What stays on record when something is done.
-use Rattle.std.proofs.Common.{Bool, List, None, Option, Some, [], ap, arith, false, if◌then◌else◌, inl, inr, refl, subst, sym, true, true≢false, not, ℕ, ◌&&◌, ◌||◌, ◌==◌, ◌<◌, ◌∙◌, ◌∷◌, ◌≡◌, ◌≢◌, ◌≤◌, ◌⊎◌}
-use Rattle.std.proofs.lemmas.Bool.{or_cases, and_parts, and_from, or_right, or_left, cases_Bool}
+use Rattle.std.proofs.Common.{Bool, List, None, Option, Some, ap, arith, false, inl, inr, refl, subst, sym, true, true≢false, not, ℕ, ◌&&◌, ◌||◌, ◌==◌, ◌∙◌, ◌∷◌, ◌≡◌, ◌≤◌, ◌⊎◌}
+use Rattle.std.proofs.lemmas.Bool.{or_cases, and_parts, and_from, or_right, cases_Bool}
 use Rattle.std.proofs.lemmas.Bool.Decides.{nat_tests}
 use Rattle.std.specs.Bool.{beq}
 use Rattle.std.specs.List.{filter, list_any}
 use Rattle.n41_types.specs.declared.identities.Stateid.{Stateid}
 use Rattle.n41_types.specs.declared.spans.Mode.{Mode}
-use Rattle.n41_runs.specs.Records.{OpenRecord, allows, covers, reads, writes, same_bytes, is_other, with_other, modes_of}
-use Rattle.n41_runs.specs.OpenRules.{IsNext, Lowers, Closes, is_current, is_union}
+use Rattle.n41_runs.specs.Records.{OpenRecord, allows, covers, reads, writes, same_bytes, is_other, modes_of}
+use Rattle.n41_runs.specs.OpenRules.{IsNext, Closes, is_current, is_union}
 use Rattle.n41_records.specs.Deeds.{Deed, opens, lowers, closes, nothing, once_opened, once_lowered, record_at, record_named, change_in, IsTold, MayOpen, MayFollow, AreSound, Stands, Holds}
-use Rattle.n41_records.proofs.Sound.{IsOpening, Lowering, Named, if_is, lowering_is, named_is, named_same, no_some, one_key, opening_by, same_as, same_is, some_is}
+use Rattle.n41_records.proofs.Sound.{Named, lowering_is, named_is, named_same, no_some, opening_by, same_as, same_is, some_is}
 
 -- ---- modes
 

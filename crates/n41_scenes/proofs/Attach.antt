@@ -1,22 +1,19 @@
 -- The client takes the reply to an OPEN.
-use Rattle.std.proofs.Common.{Bool, List, None, Option, Some, [], ap, arith, false, if◌then◌else◌, inl, inr, refl, subst, sym, true, true≢false, ℕ, ◌==◌, ◌&&◌, ◌||◌, ◌<◌, ◌∙◌, ◌∷◌, ◌≡◌, ◌≢◌, ◌≤◌, ◌⊎◌}
+use Rattle.std.proofs.Common.{List, Some, ap, inl, inr, refl, subst, sym, true, ℕ, ◌∙◌, ◌≡◌, ◌⊎◌}
 use Rattle.std.specs.Map.{lookup}
-use Rattle.std.specs.Ordering.{nat_cmp}
-use Rattle.std.specs.BTreeMap.{insert_entry}
-use Rattle.std.proofs.lemmas.Bool.{cases_eq}
 use Rattle.n41_types.specs.declared.identities.Stateid.{Stateid}
 use Rattle.n41_types.specs.declared.spans.Mode.{Mode}
 use Rattle.n41_seqid.specs.Fronts.{is_new}
 use Rattle.n41_opens.specs.declared.ids.RecordId.{RecordId}
 use Rattle.n41_opens.specs.declared.handles.Open.{Open}
-use Rattle.n41_opens.specs.Ids.{id_cmp, is_id}
-use Rattle.n41_opens.specs.Opens.{attach_in, attached, has, heard, is_marked, open_of, seated, Table, Told, told_of, telling}
+use Rattle.n41_opens.specs.Ids.{is_id}
+use Rattle.n41_opens.specs.Opens.{attach_in, attached, heard, is_marked, open_of, seated, Table, Told, told_of, telling}
 use Rattle.n41_calls.specs.Files.{record_named}
-use Rattle.n41_records.specs.Deeds.{Deed, opens, change_in, Holds, Stands}
-use Rattle.n41_records.proofs.Sound.{no_some, some_is, sound}
-use Rattle.n41_scenes.specs.Scenes.{Ask, handle_in, Scene, change, IsTaken, IsHeard, IsHeld, IsBacked, IsKept, Rises, took}
+use Rattle.n41_records.specs.Deeds.{Deed, opens, change_in}
+use Rattle.n41_records.proofs.Sound.{sound}
+use Rattle.n41_scenes.specs.Scenes.{handle_in, Scene, IsBacked, IsKept, took}
 use Rattle.n41_scenes.proofs.Entries.{has_open, kept_record, put_is, open_other, rises_put, told_put, told_still, was_record}
-use Rattle.n41_scenes.proofs.Take.{apart_opens, backed_took, before, heard_put, IsNews, IsTook, Same, took_kept}
+use Rattle.n41_scenes.proofs.Take.{apart_opens, backed_took, before, heard_put, IsNews, IsTook, took_kept}
 use Rattle.n41_scenes.proofs.Windows.{new_is}
 
 -- The reply to an OPEN with OK, for a handle for which nothing else is out.

@@ -1,12 +1,12 @@
 -- The records that requests name are there when those are served, and each handle that is not being closed is on record.
-use Rattle.std.proofs.Common.{Bool, List, None, Option, Some, [], ap, arith, false, if◌then◌else◌, inl, inr, refl, subst, sym, true, true≢false, ℕ, ◌==◌, ◌&&◌, ◌||◌, ◌<◌, ◌∙◌, ◌∷◌, ◌≡◌, ◌≢◌, ◌≤◌, ◌⊎◌}
+use Rattle.std.proofs.Common.{List, Option, Some, ap, arith, false, inl, inr, refl, subst, sym, true, true≢false, ℕ, ◌∙◌, ◌≡◌, ◌≤◌, ◌⊎◌}
 use Rattle.n41_types.specs.declared.identities.Stateid.{Stateid}
 use Rattle.n41_types.specs.declared.spans.Mode.{Mode}
 use Rattle.n41_opens.specs.declared.handles.Open.{Open}
 use Rattle.n41_opens.specs.Opens.{open_of}
-use Rattle.n41_records.specs.Deeds.{Deed, closes, nothing, record_at, IsTold, Stands, Holds}
-use Rattle.n41_records.proofs.Sound.{no_some, some_is, sound}
-use Rattle.n41_scenes.specs.Scenes.{Ask, uses, shrinks, handle_in, Scene, change, AllTaken, IsOutdated, IsHeld, IsBacked, IsGone, IsLess, IsAsked, IsClosing, IsUsed, IsOwned, IsKept}
+use Rattle.n41_records.specs.Deeds.{closes, nothing, record_at, IsTold, Stands, Holds}
+use Rattle.n41_records.proofs.Sound.{sound}
+use Rattle.n41_scenes.specs.Scenes.{Ask, uses, shrinks, handle_in, Scene, change, AllTaken, IsOutdated, IsBacked, IsLess, IsAsked, IsClosing, IsKept}
 
 -- the record that is named stands, and its seqid is not below the one by which it is named
 pub record IsNamed (v : Scene) (g : List ℕ) (i : Stateid) : Type 0 where

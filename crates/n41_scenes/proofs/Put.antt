@@ -1,5 +1,5 @@
 -- The client puts a new request.
-use Rattle.std.proofs.Common.{Bool, List, None, Option, Some, [], ap, arith, false, if◌then◌else◌, inl, inr, refl, subst, sym, true, true≢false, ℕ, ◌==◌, ◌&&◌, ◌||◌, ◌<◌, ◌∙◌, ◌∷◌, ◌≡◌, ◌≢◌, ◌≤◌, ◌⊎◌}
+use Rattle.std.proofs.Common.{Bool, List, None, Option, Some, ap, arith, false, inl, inr, refl, subst, sym, true, ℕ, ◌==◌, ◌∙◌, ◌≡◌, ◌≤◌, ◌⊎◌}
 use Rattle.std.proofs.lemmas.Bool.Decides.{nat_tests}
 use Rattle.std.specs.Prelude.{unwrap_or}
 use Rattle.std.specs.Map.{lookup}
@@ -10,10 +10,10 @@ use Rattle.n41_opens.specs.declared.ids.RecordId.{RecordId}
 use Rattle.n41_opens.specs.declared.handles.Open.{Open}
 use Rattle.n41_opens.specs.Modes.{union}
 use Rattle.n41_opens.specs.Ids.{is_id}
-use Rattle.n41_opens.specs.Opens.{modes, open_of, others, seqid_of, stateid_in, Table, Told, told_of, untold, without}
-use Rattle.n41_records.specs.Deeds.{Deed, opens, lowers, closes, nothing, change_in, IsTold, Stands, Holds}
+use Rattle.n41_opens.specs.Opens.{open_of, others, seqid_of, stateid_in, Told, told_of, untold, without}
+use Rattle.n41_records.specs.Deeds.{Deed, lowers, closes, nothing, change_in, IsTold, Stands, Holds}
 use Rattle.n41_records.proofs.Sound.{no_some, one_key, some_is, sound}
-use Rattle.n41_scenes.specs.Scenes.{Ask, quiet, uses, refreshes, shrinks, handle_in, Scene, change, IsTaken, AllTaken, IsOutdated, IsUnbegun, IsBegun, IsHeard, IsGone, IsLess, IsHeld, IsBacked, Suffices, IsAsked, IsClosing, IsUsed, Fits, IsOwned, IsKept, at, asking}
+use Rattle.n41_scenes.specs.Scenes.{Ask, quiet, uses, refreshes, shrinks, handle_in, Scene, change, IsTaken, AllTaken, IsOutdated, IsUnbegun, IsBegun, IsHeard, IsGone, IsLess, IsBacked, Suffices, IsAsked, IsClosing, IsUsed, Fits, IsOwned, IsKept, at, asking}
 use Rattle.n41_scenes.proofs.Serve.{at_is, there as elsewhere}
 use Rattle.n41_scenes.proofs.Entries.{id_itself, need_suffices, without_other}
 use Rattle.n41_scenes.proofs.Take.{handle_at}

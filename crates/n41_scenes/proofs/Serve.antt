@@ -1,20 +1,17 @@
 -- The server does what a request asks.
-use Rattle.std.proofs.Common.{Bool, List, None, Option, Some, [], ap, arith, false, if◌then◌else◌, inl, inr, refl, subst, sym, true, true≢false, ℕ, ◌==◌, ◌&&◌, ◌||◌, ◌<◌, ◌∙◌, ◌∷◌, ◌≡◌, ◌≢◌, ◌≤◌, ◌⊎◌}
-use Rattle.std.proofs.lemmas.Bool.{cases_Bool}
+use Rattle.std.proofs.Common.{Bool, List, None, Option, Some, ap, arith, false, if◌then◌else◌, inl, inr, refl, subst, sym, true, ℕ, ◌==◌, ◌∙◌, ◌∷◌, ◌≡◌, ◌≤◌, ◌⊎◌}
 use Rattle.std.proofs.lemmas.Bool.Decides.{nat_tests}
-use Rattle.std.specs.Map.{lookup}
 use Rattle.n41_types.specs.declared.identities.Stateid.{Stateid}
 use Rattle.n41_types.specs.declared.spans.Mode.{Mode}
 use Rattle.n41_opens.specs.declared.handles.Open.{Open}
 use Rattle.n41_opens.specs.Opens.{Told, open_of}
 use Rattle.std.proofs.lemmas.Bool.{cases_eq}
-use Rattle.n41_runs.specs.Records.{OpenRecord, allows}
-use Rattle.n41_records.specs.Deeds.{Deed, opens, lowers, closes, nothing, change_in, IsTold, MayFollow, Lawful, AreSound, Stands, Holds, IsEnded}
+use Rattle.n41_records.specs.Deeds.{Deed, opens, lowers, closes, nothing, change_in, IsTold, MayFollow, AreSound, Stands, Holds, IsEnded}
 use Rattle.n41_runs.specs.OpenRules.{IsNext}
-use Rattle.n41_records.proofs.Sound.{Lowering, lowering_is, no_some, some_is, sound}
+use Rattle.n41_records.proofs.Sound.{lowering_is, sound}
 use Rattle.n41_records.proofs.Stays.{IsCurrent, closes_current, current_latest, holds_closed, holds_lowered, holds_opened, lowers_current, opened_holds, stands_closed, stands_lowered, stands_opened, told_once}
 use Rattle.n41_records.proofs.Ended.{ended_now, ended_stays}
-use Rattle.n41_scenes.specs.Scenes.{Ask, quiet, uses, refreshes, shrinks, handle_in, Scene, change, IsTaken, AllTaken, IsOutdated, IsUnbegun, IsBegun, IsHeard, IsGone, IsLess, IsHeld, IsBacked, Suffices, IsAsked, IsClosing, Fits, IsOwned, IsKept, at, served}
+use Rattle.n41_scenes.specs.Scenes.{shrinks, Scene, change, IsTaken, AllTaken, IsOutdated, IsUnbegun, IsBegun, IsHeard, IsGone, IsLess, IsBacked, Suffices, IsAsked, Fits, IsOwned, IsKept, at, served}
 
 -- ---- slots
 

@@ -1,16 +1,15 @@
 -- A command begins or is answered: a handle is marked or forgotten; and nothing is put or taken any more.
-use Rattle.std.proofs.Common.{Bool, List, None, Option, Some, [], ap, arith, false, if◌then◌else◌, inl, inr, refl, subst, sym, true, true≢false, ℕ, ◌==◌, ◌&&◌, ◌||◌, ◌<◌, ◌∙◌, ◌∷◌, ◌≡◌, ◌≢◌, ◌≤◌, ◌⊎◌}
+use Rattle.std.proofs.Common.{Bool, List, Option, Some, ap, false, inl, inr, refl, subst, sym, true, true≢false, ℕ, ◌∙◌, ◌≡◌, ◌⊎◌}
 use Rattle.std.specs.Map.{lookup}
 use Rattle.n41_types.specs.declared.identities.Stateid.{Stateid}
 use Rattle.n41_types.specs.declared.spans.Mode.{Mode}
 use Rattle.n41_opens.specs.declared.ids.RecordId.{RecordId}
 use Rattle.n41_opens.specs.declared.handles.Open.{Open}
 use Rattle.n41_opens.specs.Ids.{is_id}
-use Rattle.n41_opens.specs.Opens.{forgotten, open_of, Table, Told, with_handles, with_mark, without}
-use Rattle.n41_records.specs.Deeds.{Deed, Stands, Holds}
-use Rattle.n41_records.proofs.Sound.{no_some, some_is}
-use Rattle.n41_scenes.specs.Scenes.{Ask, uses, shrinks, handle_in, Scene, IsHeard, IsGone, IsLess, IsHeld, IsBacked, IsAsked, IsClosing, IsUsed, IsOwned, IsKept, Rises, ending, showing}
-use Rattle.n41_scenes.proofs.Entries.{WasOpen, has_open, kept_record, rises_mark, rises_without, still_open, was_open, was_record, without_is, without_other}
+use Rattle.n41_opens.specs.Opens.{forgotten, open_of, Table, Told, with_mark, without}
+use Rattle.n41_records.specs.Deeds.{Stands, Holds}
+use Rattle.n41_scenes.specs.Scenes.{Ask, shrinks, handle_in, Scene, IsGone, IsLess, IsBacked, IsClosing, IsUsed, IsOwned, IsKept, Rises, ending, showing}
+use Rattle.n41_scenes.proofs.Entries.{has_open, kept_record, rises_mark, rises_without, still_open, was_open, was_record, without_is, without_other}
 use Rattle.n41_scenes.proofs.Put.{Alike, WereOpen, asked_as, heard_as}
 
 -- ---- another table

@@ -1,5 +1,5 @@
 -- The client takes the reply to an OPEN_DOWNGRADE or a CLOSE.
-use Rattle.std.proofs.Common.{Bool, List, None, Option, Some, [], ap, arith, false, if◌then◌else◌, inl, inr, not, refl, subst, sym, true, true≢false, ℕ, ◌==◌, ◌&&◌, ◌||◌, ◌<◌, ◌∙◌, ◌∷◌, ◌≡◌, ◌≢◌, ◌≤◌, ◌⊎◌}
+use Rattle.std.proofs.Common.{Bool, List, None, Option, Some, [], ap, arith, false, if◌then◌else◌, inl, inr, not, refl, subst, sym, true, true≢false, ℕ, ◌==◌, ◌&&◌, ◌<◌, ◌∙◌, ◌∷◌, ◌≡◌, ◌⊎◌}
 use Rattle.std.specs.Prelude.{nat_eq}
 use Rattle.std.specs.Map.{lookup}
 use Rattle.std.specs.Cmp.Lexicographic.{pointwise}
@@ -8,21 +8,20 @@ use Rattle.std.proofs.lemmas.Bool.Decides.{nat_tests}
 use Rattle.n41_types.specs.declared.identities.Stateid.{Stateid}
 use Rattle.n41_types.specs.declared.spans.Mode.{Mode}
 use Rattle.n41_seqid.specs.Fronts.{is_new}
-use Rattle.n41_opens.specs.declared.answers.Shrink.{Shrink}
-use Rattle.n41_opens.specs.declared.answers.Shrink.TheVariants.{Keep, Downgrade, Close}
+use Rattle.n41_opens.specs.declared.answers.Shrink.TheVariants.{Keep, Downgrade}
 use Rattle.n41_opens.specs.declared.ids.RecordId.{RecordId}
 use Rattle.n41_opens.specs.declared.handles.Open.{Open}
-use Rattle.n41_opens.specs.Modes.{is_less, joined, joined_with, union}
-use Rattle.n41_opens.specs.Ids.{id_cmp, is_id}
-use Rattle.n41_opens.specs.Opens.{applied_at, applied_by, applied_in, changed_by, changed_in, forgotten, gone_by, has, heard, is_change, is_number, modes, open_of, others, shrink_at, shrink_by, shrink_in, stateid_in, Table, Told, told_of, telling, with_handles, without}
+use Rattle.n41_opens.specs.Modes.{is_less, joined, union}
+use Rattle.n41_opens.specs.Ids.{is_id}
+use Rattle.n41_opens.specs.Opens.{applied_at, applied_by, applied_in, changed_by, changed_in, forgotten, gone_by, heard, is_change, is_number, modes, open_of, others, shrink_at, shrink_by, stateid_in, Table, Told, told_of, telling, with_handles, without}
 use Rattle.n41_opens.proofs.Counts.{id_exact}
 use Rattle.n41_calls.specs.Files.{closes as closes_it, is_alone}
-use Rattle.n41_records.specs.Deeds.{Deed, closes, lowers, change_in, Holds, IsTold, Stands}
+use Rattle.n41_records.specs.Deeds.{Deed, closes, lowers, change_in, IsTold, Stands}
 use Rattle.n41_records.proofs.Sound.{no_some, same_as, some_is, sound}
-use Rattle.n41_scenes.specs.Scenes.{Ask, handle_in, shrinks, Scene, change, at, IsAbove, IsTaken, IsHeard, IsGone, IsHeld, IsBacked, IsOutdated, IsClosing, IsKept, IsOwned, Rises, Suffices, took}
-use Rattle.n41_scenes.proofs.Serve.{here, there as elsewhere}
-use Rattle.n41_scenes.proofs.Entries.{has_open, kept_record, not_number, number_is, number_itself, rises_without, told_put, told_still, was_record, without_is, without_other}
-use Rattle.n41_scenes.proofs.Take.{apart_other, backed_took, before, heard_put, heard_took, IsNews, IsTook, Same, took_kept}
+use Rattle.n41_scenes.specs.Scenes.{Ask, handle_in, shrinks, Scene, change, at, IsAbove, IsTaken, IsHeard, IsGone, IsBacked, IsOutdated, IsClosing, IsKept, Rises, took}
+use Rattle.n41_scenes.proofs.Serve.{here}
+use Rattle.n41_scenes.proofs.Entries.{has_open, kept_record, not_number, number_is, number_itself, rises_without, told_still, was_record, without_is, without_other}
+use Rattle.n41_scenes.proofs.Take.{apart_other, backed_took, before, heard_put, heard_took, IsTook, took_kept}
 use Rattle.n41_scenes.proofs.Windows.{new_is}
 
 -- ---- the handle of the reply

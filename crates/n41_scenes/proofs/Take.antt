@@ -1,8 +1,7 @@
 -- The client takes a reply.
-use Rattle.std.proofs.Common.{Bool, List, None, Option, Some, [], ap, arith, false, if◌then◌else◌, inl, inr, refl, subst, sym, true, true≢false, ℕ, ◌==◌, ◌&&◌, ◌||◌, ◌<◌, ◌∙◌, ◌∷◌, ◌≡◌, ◌≢◌, ◌≤◌, ◌⊎◌}
+use Rattle.std.proofs.Common.{Bool, List, None, Option, Some, ap, false, if◌then◌else◌, inl, inr, refl, subst, sym, true, ℕ, ◌==◌, ◌<◌, ◌∙◌, ◌≡◌, ◌≤◌, ◌⊎◌}
 use Rattle.std.specs.Prelude.{unwrap_or}
-use Rattle.std.proofs.lemmas.Bool.{cases_Bool, cases_eq, cases_lt}
-use Rattle.std.proofs.lemmas.Bool.Decides.{nat_tests}
+use Rattle.std.proofs.lemmas.Bool.{cases_lt}
 use Rattle.std.specs.Map.{lookup}
 use Rattle.std.specs.BTreeMap.{insert_entry}
 use Rattle.n41_types.specs.declared.identities.Stateid.{Stateid}
@@ -11,10 +10,10 @@ use Rattle.n41_opens.specs.declared.ids.RecordId.{RecordId}
 use Rattle.n41_opens.specs.declared.handles.Open.{Open}
 use Rattle.n41_opens.specs.Ids.{id_cmp, is_id}
 use Rattle.n41_opens.specs.Opens.{Told, Table, heard, open_of, told_of, untold}
-use Rattle.n41_records.specs.Deeds.{Deed, opens, lowers, closes, nothing, change_in, IsTold, AreSound, Stands, Holds, IsEnded}
+use Rattle.n41_records.specs.Deeds.{Deed, opens, lowers, closes, nothing, change_in, Holds}
 use Rattle.n41_records.proofs.Sound.{no_some, some_is, sound}
-use Rattle.n41_scenes.specs.Scenes.{Ask, quiet, uses, refreshes, shrinks, handle_in, Scene, change, IsTaken, AllTaken, IsOutdated, IsUnbegun, IsBegun, IsHeard, IsGone, IsLess, IsHeld, IsBacked, Suffices, IsAsked, IsClosing, IsUsed, Fits, IsOwned, IsKept, Rises, at, took}
-use Rattle.n41_scenes.proofs.Serve.{at_is, change_at, here, there}
+use Rattle.n41_scenes.specs.Scenes.{Ask, quiet, uses, shrinks, handle_in, Scene, change, IsTaken, AllTaken, IsOutdated, IsUnbegun, IsBegun, IsHeard, IsGone, IsLess, IsBacked, Suffices, IsAsked, Fits, IsOwned, IsKept, Rises, at, took}
+use Rattle.n41_scenes.proofs.Serve.{at_is, change_at, there}
 use Rattle.n41_scenes.proofs.Entries.{told_is}
 use Rattle.n41_scenes.proofs.Windows.{IsBefore, heard_before, heard_is, untold_before}
 

@@ -1,16 +1,15 @@
 -- What is told of a record is what was taken, when one more change is.
-use Rattle.std.proofs.Common.{Bool, List, None, Option, Some, [], ap, arith, cond, false, if◌then◌else◌, inl, inr, length, refl, subst, sym, true, true≢false, not, suc, zero, ℕ, ◌+◌, ◌-◌, ◌==◌, ◌&&◌, ◌||◌, ◌++◌, ◌<◌, ◌∙◌, ◌∷◌, ◌≡◌, ◌≢◌, ◌≤◌, ◌⊎◌}
+use Rattle.std.proofs.Common.{Bool, List, None, Option, Some, [], ap, arith, false, inl, inr, length, refl, subst, sym, true, not, suc, zero, ℕ, ◌+◌, ◌-◌, ◌==◌, ◌++◌, ◌<◌, ◌∙◌, ◌∷◌, ◌≡◌, ◌≤◌, ◌⊎◌}
 use Rattle.std.specs.Prelude.{⊤, nat_eq, nat_le, is_none}
-use Rattle.std.proofs.lemmas.Bool.{and_from, cases_Bool, cases_eq, or_left, or_right}
+use Rattle.std.proofs.lemmas.Bool.{and_from, cases_eq, or_left}
 use Rattle.std.proofs.lemmas.Bool.Decides.{nat_tests}
 use Rattle.std.specs.Map.{lookup, remove_entry}
-use Rattle.n41_types.specs.declared.identities.Stateid.{Stateid}
-use Rattle.n41_seqid.specs.Seqids.{distance, is_newer, next}
+use Rattle.n41_seqid.specs.Seqids.{is_newer, next}
 use Rattle.n41_seqid.specs.Fronts.{Window, added, drained, is_new, popped, popped_by, popped_times, waits}
 use Rattle.n41_opens.specs.Opens.{Told, heard, seqid_of, untold}
 use Rattle.n41_runs.specs.OpenRules.{change_limit}
 use Rattle.n41_records.specs.Deeds.{AreSound, IsTold}
-use Rattle.n41_records.proofs.Sound.{no_some, some_is}
+use Rattle.n41_records.proofs.Sound.{no_some}
 use Rattle.n41_scenes.specs.Scenes.{AllTaken, change, IsBegun, IsHeard, IsOutdated, IsTaken, IsUnbegun, Scene}
 
 -- ---- what waits

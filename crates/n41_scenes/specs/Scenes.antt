@@ -1,5 +1,5 @@
 -- The open records of a client and of its server, and what is out between them (own; the records are those of RFC 8881, section 9.7).
-use Rattle.std.specs.Prelude.{◌≡◌, ◌⊎◌, ℕ, ◌<◌, ◌≤◌, ◌^◌, ◌==◌, Bool, true, false, List, [], ◌∷◌, Option, Some, None, if◌then◌else◌, ⊤}
+use Rattle.std.specs.Prelude.{◌≡◌, ◌⊎◌, ℕ, ◌<◌, ◌≤◌, ◌==◌, Bool, true, false, List, [], ◌∷◌, Option, Some, None, if◌then◌else◌}
 use Rattle.std.specs.Map.{lookup}
 use Rattle.n41_types.specs.declared.identities.Stateid.{Stateid}
 use Rattle.n41_types.specs.declared.spans.Mode.{Mode}
@@ -10,7 +10,7 @@ use Rattle.n41_opens.specs.Ids.{is_id}
 use Rattle.n41_opens.specs.Opens.{Told, Table, open_of}
 use Rattle.n41_runs.specs.Records.{allows}
 use Rattle.n41_runs.specs.OpenRules.{change_limit}
-use Rattle.n41_records.specs.Deeds.{Deed, opens, lowers, closes, nothing, change_in, IsTold, MayFollow, Lawful, Stands, Holds, IsEnded}
+use Rattle.n41_records.specs.Deeds.{Deed, opens, lowers, closes, nothing, change_in, IsTold, Lawful, Stands, Holds, IsEnded}
 
 -- What the request that is out on a slot asks for a handle: nothing; to read, write or resize its file by a stateid; that its record's seqid
 -- is told; or that its record needs no more than a mode, or nothing, by the stateid with which it was put.
