@@ -13,7 +13,7 @@ use Rattle.n41_results.specs.declared.replies.ReplyBody.{ReplyBody}
 use Rattle.n41_calls.specs.Calls.{Call, call, command, number}
 use Rattle.n41_model.specs.Requests.{out, used}
 use Rattle.n41_calls.specs.Text.{answer_to}
-use Rattle.n41_once.proofs.Acts.{acts_in, ends_ok}
+use Rattle.n41_acts.proofs.Acts.{acts_in, ends_ok}
 use Rattle.n41_served.proofs.Served.{IsOn, IsCopy}
 use Rattle.n41_moves.proofs.Suits.{is_change}
 use Rattle.n41_runs.specs.declared.commands.CommandName.{CommandName}

@@ -26,15 +26,15 @@ use Rattle.n41_results.specs.declared.sessions.SessionMade.{SessionMade}
 use Rattle.n41_journal.specs.declared.events.Event.TheVariants.{Put}
 use Rattle.n41_model.specs.declared.words.Setup.{Setup}
 use Rattle.n41_calls.proofs.Slots.{Seats}
-use Rattle.n41_told.proofs.Chosen.{new_owner, owner_ready}
-use Rattle.n41_told.proofs.Ledgers.{NewLedger, SameLedger, again_moves, bare_moves, new_moves}
+use Rattle.n41_holds.proofs.Chosen.{new_owner, owner_ready}
+use Rattle.n41_holds.proofs.Ledgers.{NewLedger, SameLedger, again_moves, bare_moves, new_moves}
 use Rattle.n41_moves.proofs.Moves.{PutsAgain, PutsNew, again_out, bare_on_none, bare_outs, puts_new, slot_is}
 use Rattle.n41_moves.proofs.Puts.{NewOn}
 use Rattle.n41_moves.proofs.Said.{Said}
 use Rattle.n41_moves.proofs.Single.{Single, given, sid_in}
 use Rattle.n41_told.proofs.Told.{named_owner}
 use Rattle.n41_net.proofs.Lives.{Lives}
-use Rattle.n41_once.proofs.Acts.{acts_in, ends_ok}
+use Rattle.n41_acts.proofs.Acts.{acts_in, ends_ok}
 use Rattle.n41_once.proofs.Counted.{once, is_earned, Counted, keep_weighed, keep_earned}
 use Rattle.n41_served.proofs.Putting.{PutsOn, again_on, new_on, used_here, used_there}
 

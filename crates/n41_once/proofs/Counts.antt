@@ -18,7 +18,7 @@ use Rattle.n41_journal.specs.declared.events.Event.{Event}
 use Rattle.n41_calls.specs.Calls.{answered_call, began_on, call, command, either, fresh_call, given as given_answer, handle_given, keeps_seen, named_in, number, owner, pause_given, seen}
 use Rattle.n41_calls.specs.Walks.{Seen, label_of}
 use Rattle.n41_calls.specs.Values.{is_close}
-use Rattle.n41_told.proofs.Handles.{Handled}
+use Rattle.n41_holds.proofs.Handles.{Handled}
 use Rattle.n41_model.specs.Requests.{bares, doubt, moment, out, rounds, sent, used}
 use Rattle.n41_calls.specs.Text.{answer_to}
 use Rattle.n41_served.proofs.Served.{IsCopy, IsOn, Ran, Served, body_in}
@@ -38,10 +38,10 @@ use Rattle.n41_model.specs.declared.words.Setup.{Setup}
 use Rattle.n41_calls.specs.Answers.{HasCause, UnreachableCause, round_limit}
 use Rattle.n41_calls.specs.Kept.{Kept, May, MayAnswer, MayBegin}
 use Rattle.n41_calls.proofs.Slots.{Seats, seats}
-use Rattle.n41_told.proofs.Chosen.{bare_owner}
+use Rattle.n41_holds.proofs.Chosen.{bare_owner}
 use Rattle.n41_view.proofs.Found.{no_use}
 use Rattle.n41_view.proofs.Known.{known}
-use Rattle.n41_told.proofs.Ledgers.{held}
+use Rattle.n41_holds.proofs.Ledgers.{held}
 use Rattle.n41_view.proofs.Lists.{first_bare}
 use Rattle.n41_moves.proofs.Moves.{puts_again, takes_is, slot_is}
 use Rattle.n41_moves.proofs.Puts.{PutIs, PutOf, put_of}
@@ -54,7 +54,7 @@ use Rattle.n41_net.proofs.Net.{net, taken_is}
 use Rattle.n41_served.proofs.Running.{is_on as on_at, IsNext, run_is_next, runs_last, runs_kept, here_is, there_is}
 use Rattle.n41_results.specs.declared.results.Res.{Res}
 use Rattle.n41_results.specs.declared.sessions.Sequenced.{Sequenced}
-use Rattle.n41_once.proofs.Acts.{acts_in, ends_ok, no_change, run_acts}
+use Rattle.n41_acts.proofs.Acts.{acts_in, ends_ok, no_change, run_acts}
 use Rattle.n41_once.proofs.Counted.{once, is_earned, Copies, Counted, Keeps, SameCalls, keep_weighed, keep_earned}
 use Rattle.n41_told.proofs.Settled.{Settled, settled}
 use Rattle.n41_types.specs.declared.operations.Operation.{Operation}

@@ -1,4 +1,3 @@
-pub mod Acts
 pub mod Counted
 pub mod Counting
 pub mod Weighing

@@ -41,7 +41,7 @@ use Rattle.n41_model.specs.declared.words.Setup.{Setup}
 use Rattle.n41_calls.specs.Due.{finishing}
 use Rattle.n41_calls.specs.Kept.{Kept}
 use Rattle.n41_calls.proofs.Slots.{Seats}
-use Rattle.n41_told.proofs.Ledgers.{took_one, took_call_bare, took_call_on}
+use Rattle.n41_holds.proofs.Ledgers.{took_one, took_call_bare, took_call_on}
 use Rattle.n41_moves.proofs.Moves.{TakesOn, bare_took, bare_took_used, took_out, took_used}
 use Rattle.n41_moves.proofs.Said.{stays, used_kept, gives_final, last_put}
 use Rattle.n41_moves.proofs.Single.{Single, took_outs, finishing_answered}
@@ -50,7 +50,7 @@ use Rattle.n41_net.proofs.Lives.{Lives}
 use Rattle.n41_net.proofs.Net.{TakenIs}
 use Rattle.n41_net.proofs.Verdicts.{ends, final_is, has_run, is_dropped, is_too_big}
 use Rattle.n41_runs.specs.OpenRules.{tells_loss}
-use Rattle.n41_once.proofs.Acts.{acts_in, no_change, not_change, reading_change, ends_ok, lost_not_ok, body_to, ran_value, walk_value}
+use Rattle.n41_acts.proofs.Acts.{acts_in, no_change, not_change, reading_change, ends_ok, lost_not_ok, body_to, ran_value, walk_value}
 use Rattle.n41_once.proofs.Counted.{once, is_earned, Weighed, Earned, Copies, Counted, keep_weighed, keep_earned}
 use Rattle.n41_model.specs.declared.words.Listed.{Listed}
 use Rattle.n41_types.specs.declared.operations.Operation.{Operation}

@@ -62,7 +62,7 @@ filed_legal = (((((((((((((((opened_legal, tt), tt), (record { put = refl; fresh
 
 pub filed_run : IsFiled filed
 unfolding digits
-filed_run = record { run = record { legal = (none, filed_legal); kept = filed_kept; count = refl }; written = refl; closed = refl; held = refl; left = refl }
+filed_run = record { run = record { legal = (none, filed_legal); kept = filed_kept; count = refl }; written = refl; closed = refl; shown = refl; on_record = refl; hidden = refl; left = refl }
 
 pub lost_run : IsRun lost 1
 lost_run = record { legal = (none, lost_legal); kept = lost_kept; count = refl }

@@ -1,5 +1,5 @@
 -- Some runs: what the law of runs speaks of is there (own).
-use Rattle.std.specs.Prelude.{◌≡◌, ℕ, zero, suc, Bool, true, false, List, [], ◌∷◌, replicate, Some, None, Ok, is_some}
+use Rattle.std.specs.Prelude.{◌≡◌, ℕ, zero, suc, Bool, true, false, List, [], ◌∷◌, replicate, Option, Some, None, Ok, is_some}
 use Rattle.n41_types.specs.declared.attributes.Attrs.{Attrs}
 use Rattle.n41_types.specs.declared.commands.Answer.TheVariants as says
 use Rattle.n41_types.specs.declared.commands.Command.TheVariants as asks
@@ -25,8 +25,12 @@ use Rattle.n41_results.specs.Results.{ok}
 use Rattle.n41_journal.specs.declared.events.Cause.TheVariants as cause
 use Rattle.n41_journal.specs.declared.events.Event.TheVariants.{Began, Put, Dialed, DialFailed, Broke, Ticked, Answered}
 use Rattle.n41_model.specs.declared.words.Setup.{Setup}
+use Rattle.n41_calls.specs.Calls.{files}
+use Rattle.n41_calls.specs.Files.{seen_at}
 use Rattle.n41_calls.specs.Kept.{Kept}
+use Rattle.n41_calls.specs.Walks.{Seen}
 use Rattle.n41_runs.specs.Effects.{effects_of}
+use Rattle.n41_runs.specs.Good.{IsOnRecord}
 use Rattle.n41_runs.specs.Records.{open_record}
 use Rattle.n41_runs.specs.Rules.{Legal}
 use Rattle.n41_runs.specs.declared.steps.Step.{Step}
@@ -190,11 +194,17 @@ pub record IsRun (w : List Step) (n : ℕ) : Type 0 where
   pub kept : Kept setup (client w)
   pub count : effects_of 1 w 0 1 ≡ n
 
--- So is this one: its commands that make and write the file took effect once, and its close changed no file. The server's record was there
--- while the file was open, and is there no more.
+-- the handle that the file was opened by
+abbrev pub handle : List Step → Option Seen
+handle w = seen_at (files 1 (client w)).opens (Some 1)
+
+-- So is this one: its commands that make and write the file took effect once, and its close changed no file. While the file was open its
+-- handle was on the server's record, and at the end there is neither.
 pub record IsFiled (w : List Step) : Type 0 where
   pub run : IsRun w 1
   pub written : effects_of 1 w 0 2 ≡ 1
   pub closed : effects_of 1 w 0 3 ≡ 0
-  pub held : is_some (open_record held opener fh) ≡ true
+  pub shown : is_some (handle held) ≡ true
+  pub on_record : IsOnRecord held (handle held)
+  pub hidden : handle w ≡ None
   pub left : open_record w opener fh ≡ None

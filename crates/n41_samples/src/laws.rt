@@ -16,7 +16,7 @@ pub fn an_unknown_change_may_run()
     ensures { IsRun unknown 1 }
 {}
 
-/// A law: so is one in which a file is made, written and closed. The server's open record is there as long as the file is open.
+/// A law: so is one in which a file is made, written and closed. While it is open, its handle is on the server's record.
 pub fn a_file_is_made_written_and_closed()
     ensures { IsFiled filed }
 {}

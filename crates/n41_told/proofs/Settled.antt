@@ -18,10 +18,10 @@ use Rattle.n41_calls.specs.Calls.{call, owner, command, number}
 use Rattle.n41_calls.specs.Kept.{Kept, May, MayBegin, MayAnswer}
 use Rattle.n41_model.specs.Requests.{bares, first, out, rounds, heard}
 use Rattle.n41_calls.proofs.Slots.{Seats, seats}
-use Rattle.n41_told.proofs.Chosen.{new_owner, owner_ready, bare_owner}
+use Rattle.n41_holds.proofs.Chosen.{new_owner, owner_ready, bare_owner}
 use Rattle.n41_view.proofs.Found.{no_use}
 use Rattle.n41_view.proofs.Known.{Known, known}
-use Rattle.n41_told.proofs.Ledgers.{NewLedger, new_moves, again_moves, bare_moves}
+use Rattle.n41_holds.proofs.Ledgers.{NewLedger, new_moves, again_moves, bare_moves}
 use Rattle.n41_view.proofs.Lists.{first_bare}
 use Rattle.n41_moves.proofs.Moves.{puts_again, puts_new, again_out, bare_outs, TakesIs, takes_is}
 use Rattle.n41_moves.proofs.Puts.{PutOf, PutIs, NewOn, put_of}
@@ -36,7 +36,7 @@ use Rattle.n41_model.specs.declared.words.Sent.{Sent}
 use Rattle.n41_model.specs.declared.words.Sent.TheVariants.{Never, Waits, Delayed, Unbound}
 use Rattle.n41_model.specs.Requests.{doubt, sent, is_waiting}
 use Rattle.n41_moves.proofs.Suits.{change_class}
-use Rattle.n41_told.proofs.Handles.{Handled}
+use Rattle.n41_holds.proofs.Handles.{Handled}
 use Rattle.n41_told.proofs.Telling.{told, handled}
 use Rattle.n41_runs.specs.Good.{IsUnknown}
 

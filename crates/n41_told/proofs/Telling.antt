@@ -31,12 +31,12 @@ use Rattle.n41_model.specs.Replies.{is_final, verdict_of}
 use Rattle.n41_model.specs.Requests.{bares, bare, bare_waits, made, first, out, rounds, heard, moment, retried, is_bare, is_bare_use, standing}
 use Rattle.n41_model.specs.Sessions.{phase, session, client}
 use Rattle.n41_calls.proofs.Slots.{Seats, seats}
-use Rattle.n41_told.proofs.Chosen.{new_owner, bare_owner}
+use Rattle.n41_holds.proofs.Chosen.{new_owner, bare_owner}
 use Rattle.n41_view.proofs.Fresh.{Placed, put_placed}
 use Rattle.n41_view.proofs.Found.{no_use}
 use Rattle.n41_view.proofs.Known.{Known, known, put_out_bare}
-use Rattle.n41_told.proofs.Handles.{Handled, took_busy, clean_before, busy_seen, step_handled, none_handled}
-use Rattle.n41_told.proofs.Ledgers.{held, again_moves, bare_moves, took_one, took_call_on, took_call_bare}
+use Rattle.n41_holds.proofs.Handles.{Handled, took_busy, clean_before, busy_seen, step_handled, none_handled}
+use Rattle.n41_holds.proofs.Ledgers.{held, again_moves, bare_moves, took_one, took_call_on, took_call_bare}
 use Rattle.n41_view.proofs.Lists.{first_bare}
 use Rattle.n41_moves.proofs.Moves.{PutsAgain, puts_again, again_out, bare_outs, TakesOn, TakesBare, TakesIs, takes_is, took_out, bare_took, slot_is}
 use Rattle.n41_moves.proofs.Puts.{PutOf, PutIs, ByStep, ByEnd, put_of}

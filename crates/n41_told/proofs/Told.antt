@@ -15,8 +15,8 @@ use Rattle.n41_calls.specs.Calls.{Call, call, owner, files, command, number, put
 use Rattle.n41_calls.specs.Walks.{is_plan}
 use Rattle.n41_model.specs.Requests.{bare, out, rounds}
 use Rattle.n41_calls.proofs.Slots.{Seats}
-use Rattle.n41_told.proofs.Chosen.{IsReady, new_owner, owner_ready, wants_chosen}
-use Rattle.n41_told.proofs.Ledgers.{NewLedger, SameLedger, held, new_moves}
+use Rattle.n41_holds.proofs.Chosen.{IsReady, new_owner, owner_ready, wants_chosen}
+use Rattle.n41_holds.proofs.Ledgers.{NewLedger, SameLedger, held, new_moves}
 use Rattle.n41_moves.proofs.Moves.{PutsNew, puts_new, slot_is, itself}
 use Rattle.n41_moves.proofs.Puts.{PutOf, NewOn, ForCaller}
 use Rattle.n41_moves.proofs.Suits.{Suits, is_own, is_bare_class, own_change, plan_itself}

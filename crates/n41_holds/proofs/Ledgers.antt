@@ -12,7 +12,7 @@ use Rattle.n41_calls.specs.Files.{Files, files_after, files_or}
 use Rattle.n41_model.specs.Replies.{verdict_of}
 use Rattle.n41_model.specs.Requests.{request, outs, out, knows, is_on, slot_number, retried, verdict, verdict_in, verdict_on}
 use Rattle.n41_model.specs.Sessions.{plan_of, plan_in}
-use Rattle.n41_told.proofs.Chosen.{new_owner}
+use Rattle.n41_holds.proofs.Chosen.{new_owner}
 use Rattle.n41_moves.proofs.Moves.{PutsAgain, PutsNew, TakesOn, TakesBare, new_out, bare_on_none}
 use Rattle.n41_runs.specs.Effects.{command_on, last_of}
 

@@ -50,9 +50,9 @@ use Rattle.n41_view.proofs.Lists.{first_bare}
 use Rattle.n41_moves.proofs.Moves.{puts_again, puts_new, TakesOn, TakesIs, takes_is}
 use Rattle.n41_moves.proofs.Puts.{PutOf, PutIs, put_of}
 use Rattle.n41_net.proofs.Verdicts.{ends, final_is}
-use Rattle.n41_told.proofs.Chosen.{IsReady, new_owner, owner_ready}
-use Rattle.n41_told.proofs.Ledgers.{NewLedger, SameLedger, new_moves, again_moves, bare_moves, put_files, took_one, told_one, took_call_on, told_on, took_call_bare, took_files_bare}
-use Rattle.n41_told.proofs.Tables.{found, Went, same_went, marked_went, forgotten_went, went_after, way_handle, Moved, HasResults, after_moved, opened_grown}
+use Rattle.n41_holds.proofs.Chosen.{IsReady, new_owner, owner_ready}
+use Rattle.n41_holds.proofs.Ledgers.{NewLedger, SameLedger, new_moves, again_moves, bare_moves, put_files, took_one, told_one, took_call_on, told_on, took_call_bare, took_files_bare}
+use Rattle.n41_holds.proofs.Tables.{found, Went, same_went, marked_went, forgotten_went, went_after, way_handle, Moved, HasResults, after_moved, opened_grown}
 
 -- ---- the handles that labels name
 

@@ -1,0 +1,4 @@
+pub mod Chosen
+pub mod Ledgers
+pub mod Tables
+pub mod Handles
