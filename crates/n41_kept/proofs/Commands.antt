@@ -21,8 +21,8 @@ use Rattle.n41_calls.specs.Calls.{answered_call, began_on, Call, call, command, 
 use Rattle.n41_calls.specs.Files.{Files, forgotten_at, marked_at, seen_at, seen_of}
 use Rattle.n41_calls.specs.Values.{is_close}
 use Rattle.n41_calls.specs.Walks.{ahead, at_root, is_none_left, label_of, listed_of, Seen, way_of}
-use Rattle.n41_told.proofs.Handles.{Handled, holds_handle}
-use Rattle.n41_told.proofs.Tables.{way_handle}
+use Rattle.n41_holds.proofs.Handles.{Handled, holds_handle}
+use Rattle.n41_holds.proofs.Tables.{way_handle}
 use Rattle.n41_told.proofs.Telling.{given_idle}
 use Rattle.n41_told.proofs.Told.{GoesOn, Told}
 use Rattle.n41_records.proofs.Sound.{no_some, some_is}

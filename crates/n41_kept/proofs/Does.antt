@@ -29,9 +29,9 @@ use Rattle.n41_runs.specs.Server.{last}
 use Rattle.n41_runs.specs.declared.steps.Step.{Step}
 use Rattle.n41_runs.specs.declared.steps.Step.TheVariants.{Does}
 use Rattle.n41_runs.specs.Steps.{client}
-use Rattle.n41_told.proofs.Chosen.{bare_owner, new_owner}
-use Rattle.n41_told.proofs.Handles.{Handled}
-use Rattle.n41_told.proofs.Ledgers.{again_moves, bare_moves, new_moves, put_files, SameLedger}
+use Rattle.n41_holds.proofs.Chosen.{bare_owner, new_owner}
+use Rattle.n41_holds.proofs.Handles.{Handled}
+use Rattle.n41_holds.proofs.Ledgers.{again_moves, bare_moves, new_moves, put_files, SameLedger}
 use Rattle.n41_told.proofs.Telling.{heard_zero, new_class, some_command}
 use Rattle.n41_records.proofs.Sound.{some_is}
 use Rattle.n41_records.specs.Deeds.{nothing}

@@ -37,8 +37,8 @@ use Rattle.n41_runs.specs.Rules.{Sizes}
 use Rattle.n41_runs.specs.Server.{alive, kept, last}
 use Rattle.n41_runs.specs.declared.steps.Step.{Step}
 use Rattle.n41_runs.specs.Steps.{client, end_status, ran_reply}
-use Rattle.n41_told.proofs.Handles.{Steady}
-use Rattle.n41_told.proofs.Tables.{found}
+use Rattle.n41_holds.proofs.Handles.{Steady}
+use Rattle.n41_holds.proofs.Tables.{found}
 use Rattle.n41_records.specs.Deeds.{deed, nothing}
 use Rattle.n41_records.proofs.Sound.{no_some, some_is}
 use Rattle.n41_scenes.specs.Scenes.{Scene}

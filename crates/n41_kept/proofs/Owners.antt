@@ -5,7 +5,7 @@ use Rattle.n41_model.specs.Requests.{out}
 use Rattle.n41_calls.specs.Calls.{call, command, number, owner}
 use Rattle.n41_runs.specs.declared.commands.CommandName.{CommandName}
 use Rattle.n41_runs.specs.Effects.{command_on}
-use Rattle.n41_told.proofs.Ledgers.{held}
+use Rattle.n41_holds.proofs.Ledgers.{held}
 use Rattle.n41_told.proofs.Told.{caller_of, GoesOn, is_so_named, Told}
 use Rattle.n41_records.proofs.Sound.{no_some, some_is}
 

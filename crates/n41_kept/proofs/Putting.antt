@@ -29,9 +29,9 @@ use Rattle.n41_calls.specs.Values.{is_close}
 use Rattle.n41_calls.specs.Walks.{Seen, current, file, is_plan, next_plan}
 use Rattle.n41_moves.proofs.Puts.{ForCaller, NewOn}
 use Rattle.n41_moves.proofs.Suits.{is_own, plan_itself}
-use Rattle.n41_told.proofs.Chosen.{chosen_wants, IsReady, new_owner, owner_ready, wants_chosen}
-use Rattle.n41_told.proofs.Handles.{Handled, holds_handle}
-use Rattle.n41_told.proofs.Ledgers.{NewLedger}
+use Rattle.n41_holds.proofs.Chosen.{chosen_wants, IsReady, new_owner, owner_ready, wants_chosen}
+use Rattle.n41_holds.proofs.Handles.{Handled, holds_handle}
+use Rattle.n41_holds.proofs.Ledgers.{NewLedger}
 use Rattle.n41_records.proofs.Sound.{no_some, some_is}
 use Rattle.n41_records.specs.Deeds.{nothing}
 use Rattle.n41_scenes.specs.Scenes.{Ask, quiet, uses, shrinks, handle_in, Scene, IsKept, IsUsed, asking, at}

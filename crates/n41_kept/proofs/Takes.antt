@@ -36,7 +36,7 @@ use Rattle.n41_runs.specs.Server.{alive, kept, last}
 use Rattle.n41_runs.specs.declared.steps.Step.{Step}
 use Rattle.n41_runs.specs.declared.steps.Step.TheVariants.{Takes}
 use Rattle.n41_runs.specs.Steps.{client}
-use Rattle.n41_told.proofs.Ledgers.{told_on, told_one, took_call_bare, took_call_on, took_files_bare, took_one}
+use Rattle.n41_holds.proofs.Ledgers.{told_on, told_one, took_call_bare, took_call_on, took_files_bare, took_one}
 use Rattle.n41_records.specs.Deeds.{closes, Deed, deeds, lowers, nothing, opens}
 use Rattle.n41_records.proofs.Sound.{no_some}
 use Rattle.n41_scenes.specs.Scenes.{Ask, Fits, handle_in, IsKept, Scene, took}

@@ -13,7 +13,7 @@ use Rattle.n41_model.specs.Replies.{names_state}
 use Rattle.n41_model.specs.Requests.{out, rounds}
 use Rattle.n41_calls.specs.Calls.{Call, call, command, files, owner}
 use Rattle.n41_calls.specs.Values.{is_close}
-use Rattle.n41_told.proofs.Handles.{holds_handle}
+use Rattle.n41_holds.proofs.Handles.{holds_handle}
 use Rattle.n41_records.proofs.Sound.{no_some}
 use Rattle.n41_records.specs.Deeds.{nothing}
 use Rattle.n41_scenes.specs.Scenes.{Ask, quiet, handle_in, Scene, at, took}
