@@ -1,0 +1,15 @@
+pub mod Shown
+pub mod Acts
+pub mod Quiet
+pub mod Plans
+pub mod Putting
+pub mod Owners
+pub mod Commands
+pub mod Taking
+pub mod Replies
+pub mod Outcomes
+pub mod Takes
+pub mod Running
+pub mod Does
+pub mod Run
+pub mod Truth

@@ -1,0 +1,9 @@
+pub mod Serve
+pub mod Entries
+pub mod Windows
+pub mod Take
+pub mod Attach
+pub mod Shrink
+pub mod Put
+pub mod Show
+pub mod Named
