@@ -1,6 +1,6 @@
 -- Whether a command has a next plan, and what is due then.
 use Rattle.std.proofs.Common.{◌≡◌, ℕ, ◌<◌, ◌≤◌, Bool, true, false, ◌&&◌, not, if◌then◌else◌, List, [], ◌∷◌, Option, Some, None, take, length, slice_get, refl, sym, ◌∙◌, ap, subst, arith}
-use Rattle.std.specs.Prelude.{is_some}
+use Rattle.std.specs.Prelude.{is_some, IsSome}
 use Rattle.n41_types.specs.declared.commands.Command.{Command}
 use Rattle.n41_types.specs.declared.commands.Command.TheVariants as asks
 use Rattle.n41_types.specs.declared.plans.Place.{Place}
@@ -140,6 +140,9 @@ fresh_is u w c f r h =
     ∙ ap (λ (b : Bool). (not b && is_running w.facts.phase) && is_some (begins_seat u w (slice_get w.seats c))) f
     ∙ ap (λ (b : Bool). b && is_some (begins_seat u w (slice_get w.seats c))) r
     ∙ begins u w (slice_get w.seats c) h
+
+pub fresh_some : (u : Setup) (w : View) (c : ℕ) → finishing_in w ≡ false → is_running w.facts.phase ≡ true → ((p : Plan) → is_some (new_on u w p) ≡ true) → can_begin w (slice_get w.seats c) ≡ true → IsSome (due_item u w (Fresh c))
+fresh_some u w c f r h e = fresh_is u w c f r h ∙ e
 
 no_plan : (f : Plan → Option Request) (o : Option Plan) → ((p : Plan) → is_some (f p) ≡ false) → is_some (with_plan o f) ≡ false
 no_plan f None h = refl

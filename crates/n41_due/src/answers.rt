@@ -46,11 +46,7 @@ impl Lookup<'_> {
     pub fn handle_given(&self, seat: &Seat) -> Option<Answer>
         ensures { result ≡ handle_given seat.now.busy seat.now.command (seat_seen self.now.files seat.now) }
     {
-        handle_given(
-            seat.busy,
-            &seat.command,
-            &self.files.seen(seat.way.handle),
-        )
+        handle_given(seat.busy, &seat.command, &self.files.seen(seat.way.handle))
     }
 
     /// Whether nothing is left to be put once all is answered.
@@ -60,7 +56,7 @@ impl Lookup<'_> {
         match (self.facts.standing, self.bare) {
             (None, _) => true,
             (Some(_), Some(_)) => false,
-            (Some(_), None) => self.destroy_plan().is_none(),
+            (Some(_), None) => !self.has_destroy_plan(),
         }
     }
 

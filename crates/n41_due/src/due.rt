@@ -32,9 +32,7 @@ impl Lookup<'_> {
     pub(crate) fn is_open(&self) -> bool
         ensures { result ≡ is_open_in self.now.facts }
     {
-        self.facts.standing.is_some()
-            && !self.is_dead()
-            && self.facts.rounds < ROUND_LIMIT
+        self.facts.standing.is_some() && !self.is_dead() && self.facts.rounds < ROUND_LIMIT
     }
 
     fn is_timely(&self) -> bool
@@ -126,7 +124,7 @@ impl Lookup<'_> {
         if !self.has_room() {
             return None;
         }
-        match self.first_ready(self.seats) {
+        match self.first_ready(self.seats()) {
             None => None,
             Some(caller) => Some(caller as u32),
         }
@@ -138,7 +136,7 @@ impl Lookup<'_> {
         if !self.may_destroy() {
             return false;
         }
-        self.destroy_plan().is_some() && self.next_xid().is_some()
+        self.has_destroy_plan() && self.next_xid().is_some()
     }
 
     fn first_item(&self) -> Option<Item>

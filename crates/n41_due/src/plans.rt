@@ -115,4 +115,14 @@ impl Lookup<'_> {
             client_free(self.has_handles(), self.facts.client),
         )
     }
+
+    /// Whether there is a session to give up, or a client id that may be.
+    pub(crate) fn has_destroy_plan(&self) -> bool
+        ensures { result ≡ is_some (destroy_now self.now) }
+    {
+        match self.facts.session {
+            None => self.facts.client.is_some() && !self.has_handles(),
+            Some(_) => true,
+        }
+    }
 }

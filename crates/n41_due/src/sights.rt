@@ -26,12 +26,12 @@ impl<'a> Model for Sight<'a> {
 }
 
 /// The owner of the opens that a user makes after so many sessions were made.
-#[tactic(auto, using(crate::proofs::Owners::owner_fits))]
 fn owner_text(alloc: Global, uid: u32, sessions: u64) -> Result<Owner, NoMemory>
     ensures { IfOk result (λ o. o ≡ owner_text uid sessions) }
 {
     let text = format!(in alloc; "{uid}:{sessions}")?;
-    Ok(Owner::new(Bytes::from_string(text)?))
+    let bytes = Bytes::from_string(text)?;
+    Ok(Owner::new(bytes))
 }
 
 impl Sight<'_> {

@@ -96,12 +96,7 @@ fn create(
 }
 
 /// The root is opened by its filehandle, which a walk over no names tells.
-fn opening(
-    alloc: Global,
-    sight: &Sight,
-    at: &Place,
-    mode: Mode,
-) -> Result<Option<Plan>, NoMemory>
+fn opening(alloc: Global, sight: &Sight, at: &Place, mode: Mode) -> Result<Option<Plan>, NoMemory>
     ensures { IfOk result (λ o. o ≡ opening at.now mode sight.now.owner) }
 {
     Ok(Some(match at {
