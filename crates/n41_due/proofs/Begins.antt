@@ -9,7 +9,6 @@ use Rattle.n41_types.specs.declared.plans.Plan.{Plan}
 use Rattle.n41_types.specs.declared.plans.Plan.TheVariants as plan
 use Rattle.n41_types.specs.declared.plans.Request.{Request}
 use Rattle.n41_types.specs.declared.spans.Mode.{Mode}
-use Rattle.n41_results.specs.declared.sessions.SessionMade.{SessionMade}
 use Rattle.n41_model.specs.declared.words.Item.TheVariants.{Fresh}
 use Rattle.n41_model.specs.declared.words.Listed.{Listed}
 use Rattle.n41_model.specs.declared.words.Setup.{Setup}
@@ -17,11 +16,11 @@ use Rattle.n41_model.specs.declared.words.Way.{Way}
 use Rattle.n41_model.specs.declared.words.Stale.{Stale}
 use Rattle.n41_opens.specs.declared.answers.Shrink.{Shrink}
 use Rattle.n41_opens.specs.declared.answers.Shrink.TheVariants.{Keep, Downgrade, Close}
-use Rattle.n41_calls.specs.Walks.{Seen, Sight, ahead, close, close_after, create, goal, is_keep, last_of, list, list_size, make_dir, next_plan, opening, read, read_most, refresh, remove, rename, resize, shrinks, walk_most, walk_or, write, write_most}
+use Rattle.n41_calls.specs.Walks.{Seen, Sight, ahead, close_after, create, goal, is_keep, last_of, list, list_size, make_dir, next_plan, opening, read, read_most, refresh, remove, rename, resize, shrinks, walk_most, walk_or, write, write_most}
 use Rattle.n41_calls.specs.Due.{only_if, with_plan, is_running}
 use Rattle.n41_view.specs.declared.tables.Seat.{Seat}
 use Rattle.n41_view.specs.Due.{finishing_in, begins_seat, new_on, due_item}
-use Rattle.n41_view.specs.Step.{seat_plan, seat_ready, seat_seen, seat_sight}
+use Rattle.n41_view.specs.Step.{seat_plan, seat_ready, seat_sight}
 use Rattle.n41_view.specs.View.{View}
 use Rattle.n41_due.specs.Order.{can_begin, began_of, handle_alone}
 use Rattle.n41_due.proofs.First.{none_is}
