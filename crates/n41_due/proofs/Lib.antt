@@ -5,3 +5,4 @@ pub mod Placed
 pub mod Old
 pub mod Next
 pub mod Begins
+pub mod Owners

@@ -1,22 +1,28 @@
 -- Which of the requests that are due goes first (own).
-use Rattle.std.specs.Prelude.{◌≡◌, ℕ, ◌==◌, Bool, true, false, ◌&&◌, ◌||◌, List, Option, Some, None, nat_lt, is_some, slice_get}
+use Rattle.std.specs.Prelude.{◌≡◌, ℕ, ◌==◌, Bool, true, false, ◌&&◌, ◌||◌, List, [], Option, Some, None, nat_lt, is_some, slice_get}
 use Rattle.n41_types.specs.declared.plans.Request.{Request}
 use Rattle.n41_model.specs.declared.words.Item.{Item}
 use Rattle.n41_model.specs.declared.words.Item.TheVariants as item
 use Rattle.n41_model.specs.declared.words.Setup.{Setup}
+use Rattle.n41_calls.specs.Files.{Files}
+use Rattle.n41_calls.specs.Walks.{Seen, Sight, next_plan}
 use Rattle.n41_view.specs.View.{View}
-use Rattle.n41_view.specs.Due.{is_ready_seat, due_in}
-use Rattle.n41_view.specs.Step.{seat_plan}
+use Rattle.n41_view.specs.Due.{due_in}
+use Rattle.n41_view.specs.Step.{seat_ready, seat_seen}
 use Rattle.n41_view.specs.declared.tables.Seat.{Seat}
 
--- The command has a next plan: that does not hang on the session's sizes.
-abbrev pub has_next : Seat → Bool
-has_next s = is_some (seat_plan None s)
+-- what a command sees in no session, with no owner of its opens
+abbrev pub handle_alone : Option Seen → Sight
+handle_alone h = record { session = None; owner = []; seen = h }
+
+-- The command has a next plan: that hangs neither on the session's sizes nor on the owner of the opens.
+abbrev pub has_next : Files → Seat → Bool
+has_next g s = is_some (next_plan (handle_alone (seat_seen g s)) s.command s.way)
 
 -- the command can go on, and has a next plan
-abbrev pub can_begin : ℕ → Option Seat → Bool
-can_begin m None = false
-can_begin m (Some s) = is_ready_seat m s && has_next s
+abbrev pub can_begin : View → Option Seat → Bool
+can_begin w None = false
+can_begin w (Some s) = seat_ready w.facts w.slots w.files s && has_next w.files s
 
 -- the place where the command began
 abbrev pub began_of : Option Seat → ℕ

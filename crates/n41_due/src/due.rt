@@ -3,13 +3,13 @@ ghost use Rattle.n41_types.specs.declared.plans.Plan.{Plan as PlanValue};
 ghost use Rattle.n41_model.specs.declared.words.Item.{Item as ItemValue};
 ghost use Rattle.n41_model.specs.declared.words.Setup.{Setup as SetupValue};
 ghost use Rattle.n41_calls.specs.Due.{is_session};
-ghost use Rattle.n41_view.specs.Due.{any_waiting, finishing_in, is_open_in, is_timely, may_step_in, may_own_in, new_on, due_item, due_in};
+ghost use Rattle.n41_view.specs.Due.{any_waiting, finishing_in, is_open_in, is_dead_in, is_timely, may_step_in, may_own_in, new_on, due_item, due_in};
 ghost use Rattle.n41_due.specs.Order.{began_of, goes_before};
 
 use crate::answers::ROUND_LIMIT;
 use crate::lookup::Lookup;
-use crate::plans::{has_destroy_plan, has_phase_plan, put_off};
-use crate::seats::{all_idle, first_ready};
+use crate::plans::{has_phase_plan, put_off};
+use crate::seats::all_idle;
 use crate::slots::{any_owned, any_waiting, first_again, first_free, has_passed};
 use n41_model::{Item, Phase};
 
@@ -21,13 +21,18 @@ impl Lookup<'_> {
         self.facts.quit && all_idle(self.seats)
     }
 
+    /// Whether a reply was taken that no server gives which keeps the rules.
+    pub(crate) fn is_dead(&self) -> bool
+        ensures { result ≡ is_dead_in self.now.facts }
+    {
+        self.facts.breach_at.is_some() || matches!(self.facts.phase, Phase::Dead)
+    }
+
     /// Whether a connection stands that carries requests: none does where the run has ended for good.
     pub(crate) fn is_open(&self) -> bool
         ensures { result ≡ is_open_in self.now.facts }
     {
-        self.facts.standing.is_some()
-            && !matches!(self.facts.phase, Phase::Dead)
-            && self.facts.rounds < ROUND_LIMIT
+        self.facts.standing.is_some() && !self.is_dead() && self.facts.rounds < ROUND_LIMIT
     }
 
     fn is_timely(&self) -> bool
@@ -119,7 +124,7 @@ impl Lookup<'_> {
         if !self.has_room() {
             return None;
         }
-        match first_ready(self.seats, self.facts.moment) {
+        match self.first_ready(self.seats()) {
             None => None,
             Some(caller) => Some(caller as u32),
         }
@@ -131,7 +136,7 @@ impl Lookup<'_> {
         if !self.may_destroy() {
             return false;
         }
-        has_destroy_plan(self.facts) && self.next_xid().is_some()
+        self.has_destroy_plan() && self.next_xid().is_some()
     }
 
     fn first_item(&self) -> Option<Item>

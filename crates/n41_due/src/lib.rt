@@ -3,10 +3,12 @@
 
 mod answers;
 mod due;
+mod handles;
 mod lookup;
 mod plans;
 mod requests;
 mod seats;
+mod sights;
 mod slots;
 mod walks;
 mod xids;

@@ -1,8 +1,9 @@
 ghost use Rattle.std.specs.Prelude.{◌≡◌, ◌+◌, ◌<◌, Some, IfOk, is_some};
 ghost use Rattle.n41_model.specs.declared.words.Setup.{Setup as SetupValue};
-ghost use Rattle.n41_calls.specs.Due.{bind_in, create_in, own_plan_in, destroy_in, bare_request};
-ghost use Rattle.n41_view.specs.Due.{put_off_in, plan_for};
+ghost use Rattle.n41_calls.specs.Due.{bind_in, create_in, own_plan_in, has_handles, client_free, destroy_in};
+ghost use Rattle.n41_view.specs.Due.{put_off_in, plan_for, destroy_now};
 
+use crate::lookup::Lookup;
 use n41_model::{KnownClient, Phase, Setup};
 use n41_results::SessionMade;
 use n41_types::{NoMemory, Plan};
@@ -80,8 +81,14 @@ pub fn own_plan(phase: Phase, completed: bool) -> Option<Plan>
     }
 }
 
-/// What ends the session, and then the client id.
-pub fn destroy_plan(session: Option<SessionMade>, client: Option<KnownClient>) -> Option<Plan>
+/// The client id, where it may be given up: no open is held.
+fn client_free(held: bool, client: Option<KnownClient>) -> Option<KnownClient>
+    ensures { result ≡ client_free held client }
+{
+    if held { None } else { client }
+}
+
+fn destroy_in(session: Option<SessionMade>, client: Option<KnownClient>) -> Option<Plan>
     ensures { result ≡ destroy_in session client }
 {
     match (session, client) {
@@ -91,12 +98,31 @@ pub fn destroy_plan(session: Option<SessionMade>, client: Option<KnownClient>) -
     }
 }
 
-/// Whether there is a session or a client id to give up.
-pub fn has_destroy_plan(facts: &Facts) -> bool
-    ensures { result ≡ is_some (destroy_in facts.now.session facts.now.client) }
-{
-    match facts.session {
-        None => facts.client.is_some(),
-        Some(_) => true,
+impl Lookup<'_> {
+    /// Whether some handle is open.
+    fn has_handles(&self) -> bool
+        ensures { result ≡ has_handles self.now.files.opens }
+    {
+        !self.files.opens().is_empty()
+    }
+
+    /// What ends the session, and then the client id where no open is held.
+    pub(crate) fn destroy_plan(&self) -> Option<Plan>
+        ensures { result ≡ destroy_now self.now }
+    {
+        destroy_in(
+            self.facts.session,
+            client_free(self.has_handles(), self.facts.client),
+        )
+    }
+
+    /// Whether there is a session to give up, or a client id that may be.
+    pub(crate) fn has_destroy_plan(&self) -> bool
+        ensures { result ≡ is_some (destroy_now self.now) }
+    {
+        match self.facts.session {
+            None => self.facts.client.is_some() && !self.has_handles(),
+            Some(_) => true,
+        }
     }
 }

@@ -8,10 +8,8 @@ ghost use Rattle.n41_view.specs.Due.{finishing_in, first_free, new_on, new_bare,
 ghost use Rattle.n41_view.specs.Causes.{any_old, awaited_in, is_old_in};
 
 use crate::lookup::Lookup;
-use crate::plans::{destroy_plan, own_plan, phase_plan};
-use crate::seats::is_ready;
+use crate::plans::{own_plan, phase_plan};
 use crate::slots::{again, any_old, first_free, first_old, held_with, highest};
-use crate::walks::next_plan;
 use crate::xids::is_named;
 use n41_model::{Item, Phase, Sent, Setup};
 use n41_types::{NoMemory, Plan, Request, SlotUse};
@@ -143,15 +141,13 @@ impl Lookup<'_> {
     ) -> Result<Option<Request>, NoMemory>
         ensures { IfOk result (λ o. o ≡ begins_seat setup.now self.now (Some seat.now)) }
     {
-        if !is_ready(self.facts.moment, seat) {
+        if !self.is_ready(seat) {
             return Ok(None);
         }
-        Ok(
-            match next_plan(alloc, self.facts.session, &seat.command, &seat.way)? {
-                None => None,
-                Some(plan) => self.new_on(setup, plan),
-            },
-        )
+        Ok(match self.seat_plan(alloc, setup.uid, seat)? {
+            None => None,
+            Some(plan) => self.new_on(setup, plan),
+        })
     }
 
     fn fresh_request(
@@ -177,7 +173,7 @@ impl Lookup<'_> {
         if !self.may_destroy() {
             return None;
         }
-        match destroy_plan(self.facts.session, self.facts.client) {
+        match self.destroy_plan() {
             None => None,
             Some(plan) => self.new_bare(setup, plan),
         }

@@ -1,11 +1,14 @@
 ghost use Rattle.std.specs.Prelude.{◌≡◌, ◌<◌, ◌≤◌, ◌&&◌, if◌then◌else◌, Some, ℕ, true, false, length, slice_get, IfSome, IfNone};
 ghost use Rattle.n41_calls.specs.Calls.{is_ready_call};
-ghost use Rattle.n41_view.specs.Due.{all_idle, is_ready_seat};
-ghost use Rattle.n41_view.specs.Step.{call_of};
+ghost use Rattle.n41_calls.specs.Files.{seen_at};
+ghost use Rattle.n41_view.specs.Due.{all_idle};
+ghost use Rattle.n41_view.specs.Step.{call_of, seat_awaits, seat_ready};
 ghost use Rattle.n41_due.specs.Order.{can_begin, began_of, is_sooner};
 
-use crate::slots::has_passed;
+use crate::lookup::Lookup;
+use crate::slots::{has_passed, open_held};
 use crate::walks::has_next;
+use n41_model::Way;
 use n41_view::Seat;
 
 /// Whether every command is answered.
@@ -18,22 +21,6 @@ pub fn all_idle(seats: &[Seat]) -> bool
         }
     }
     true
-}
-
-/// Whether the command can go on.
-pub fn is_ready(moment: u64, seat: &Seat) -> bool
-    ensures { result ≡ is_ready_seat moment seat.now }
-{
-    match seat.command {
-        None => false,
-        Some(_) => !seat.busy && seat.earned.is_none() && has_passed(seat.since, moment),
-    }
-}
-
-fn can_begin(moment: u64, seat: &Seat) -> bool
-    ensures { result ≡ can_begin moment (Some seat.now) }
-{
-    is_ready(moment, seat) && has_next(seat)
 }
 
 /// Whether the command began before that of the best caller so far.
@@ -49,32 +36,68 @@ fn is_sooner(seats: &[Seat], seat: &Seat, best: Option<usize>) -> bool
     }
 }
 
-fn better(
-    seats: &[Seat],
-    moment: u64,
-    best: Option<usize>,
-    caller: usize,
-    seat: &Seat,
-) -> Option<usize>
-    ensures { result ≡ (if can_begin moment (Some seat.now) && is_sooner seats.now seat.now best then Some caller else best) }
-{
-    if can_begin(moment, seat) && is_sooner(seats, seat, best) {
-        Some(caller)
-    } else {
+impl Lookup<'_> {
+    /// Whether a close waits for the opens of its owner that were out when it was told that its stateid is outdated.
+    fn awaits(&self, way: &Way) -> bool
+        ensures { result ≡ seat_awaits self.now.slots way.now.stale (seen_at self.now.files.opens way.now.handle) }
+    {
+        let Some(stale) = way.stale else {
+            return false;
+        };
+        match self.files.seen(way.handle) {
+            None => false,
+            Some(seen) => open_held(self.slots, &seen.handle.id.key.owner, stale.place),
+        }
+    }
+
+    /// Whether the command can go on.
+    pub(crate) fn is_ready(&self, seat: &Seat) -> bool
+        ensures { result ≡ seat_ready self.now.facts self.now.slots self.now.files seat.now }
+    {
+        match seat.command {
+            None => false,
+            Some(_) => {
+                !seat.busy
+                    && seat.earned.is_none()
+                    && has_passed(seat.since, self.facts.moment)
+                    && !self.awaits(&seat.way)
+            }
+        }
+    }
+
+    fn can_begin(&self, seat: &Seat) -> bool
+        ensures { result ≡ can_begin self.now (Some seat.now) }
+    {
+        self.is_ready(seat) && has_next(self.files, seat)
+    }
+
+    fn better(
+        &self,
+        seats: &[Seat],
+        best: Option<usize>,
+        caller: usize,
+        seat: &Seat,
+    ) -> Option<usize>
+        ensures { result ≡ (if can_begin self.now (Some seat.now) && is_sooner seats.now seat.now best then Some caller else best) }
+    {
+        if self.can_begin(seat) && is_sooner(seats, seat, best) {
+            Some(caller)
+        } else {
+            best
+        }
+    }
+
+    /// Of these callers whose command can go on, the one whose command began first.
+    pub(crate) fn first_ready(&self, seats: &[Seat]) -> Option<usize>
+        ensures within { IfSome result (λ c. c < length seats.now) }
+        ensures some { IfSome result (λ c. can_begin self.now (slice_get seats.now c) ≡ true) }
+        ensures first { IfSome result (λ c. (d : ℕ) → can_begin self.now (slice_get seats.now d) ≡ true → began_of (slice_get seats.now c) ≤ began_of (slice_get seats.now d)) }
+        ensures none { IfNone result ((d : ℕ) → can_begin self.now (slice_get seats.now d) ≡ false) }
+    {
+        let mut best = None;
+        for (i, seat) in seats.iter().enumerate() {
+            best = self.better(seats, best, i, seat);
+        }
         best
     }
-}
-
-/// Of the callers whose command can go on, the one whose command began first.
-pub fn first_ready(seats: &[Seat], moment: u64) -> Option<usize>
-    ensures within { IfSome result (λ c. c < length seats.now) }
-    ensures some { IfSome result (λ c. can_begin moment (slice_get seats.now c) ≡ true) }
-    ensures first { IfSome result (λ c. (d : ℕ) → can_begin moment (slice_get seats.now d) ≡ true → began_of (slice_get seats.now c) ≤ began_of (slice_get seats.now d)) }
-    ensures none { IfNone result ((d : ℕ) → can_begin moment (slice_get seats.now d) ≡ false) }
-{
-    let mut best = None;
-    for (i, seat) in seats.iter().enumerate() {
-        best = better(seats, moment, best, i, seat);
-    }
-    best
 }

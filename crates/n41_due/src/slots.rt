@@ -3,11 +3,12 @@ ghost use Rattle.n41_model.specs.Requests.{is_waiting};
 ghost use Rattle.n41_model.specs.Sessions.{passed};
 ghost use Rattle.n41_calls.specs.Due.{goes_again};
 ghost use Rattle.n41_view.specs.Due.{any_held, any_waiting, waits_held, any_owned, owns_held, is_free_slot, first_free, highest_in, goes_held, goes_slot};
-ghost use Rattle.n41_view.specs.Step.{has, holds, held_with, held_requests};
+ghost use Rattle.n41_calls.specs.Calls.{is_open_by};
+ghost use Rattle.n41_view.specs.Step.{has, holds, held_with, held_requests, held_opens, open_held};
 ghost use Rattle.n41_view.specs.Causes.{is_old_held, any_old, doubts, any_doubt, is_changing};
 
 use n41_model::Sent;
-use n41_types::{Class, Request};
+use n41_types::{Class, Owner, Plan, Request};
 use n41_view::{Held, Slot};
 
 /// Whether two seconds have passed since this moment.
@@ -222,6 +223,37 @@ pub fn any_doubt(slots: &[Slot], caller: u32) -> bool
 {
     for slot in slots {
         if doubts(caller, &slot.held) {
+            return true;
+        }
+    }
+    false
+}
+
+/// Whether this plan opens a file for this owner.
+fn is_open_by(owner: &Owner, plan: &Plan) -> bool
+    ensures { result ≡ is_open_by owner.now plan.now }
+{
+    match plan {
+        Plan::CreateFile { owner: by, .. } | Plan::OpenAt { owner: by, .. } => owner == by,
+        _ => false,
+    }
+}
+
+fn held_opens(owner: &Owner, place: u64, held: &Option<Held>) -> bool
+    ensures { result ≡ held_opens owner.now place held.now }
+{
+    match held {
+        None => false,
+        Some(held) => is_open_by(owner, &held.request.plan) && held.begun <= place,
+    }
+}
+
+/// Whether an open by this owner is out that was put anew up to this place.
+pub fn open_held(slots: &[Slot], owner: &Owner, place: u64) -> bool
+    ensures { result ≡ open_held owner.now place slots.now }
+{
+    for slot in slots {
+        if held_opens(owner, place, &slot.held) {
             return true;
         }
     }

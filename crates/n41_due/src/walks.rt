@@ -1,13 +1,17 @@
-//! The next plan of a command that walks.
+//! The next plan of a command: a walk, and at its end its goal.
 
 ghost use Rattle.std.specs.Prelude.{◌≡◌, ℕ, Some, IfOk, take, is_some, option_copied};
-ghost use Rattle.n41_calls.specs.Calls.{goal, last_of, list, make_dir, next_plan, remove, rename, walk_most, walk_or};
-ghost use Rattle.n41_due.specs.Order.{has_next};
+ghost use Rattle.n41_calls.specs.Walks.{create, goal, last_of, list, make_dir, next_plan, opening, remove, rename, walk_most, walk_or};
+ghost use Rattle.n41_view.specs.Step.{seat_plan, seat_sight};
+ghost use Rattle.n41_due.specs.Order.{handle_alone, has_next};
 
+use crate::handles::{close, has_close, read, read_most, resize, write, write_most};
+use crate::lookup::Lookup;
+use crate::sights::Sight;
+use n41_files::{Files, Seen};
 use n41_model::{Listed, Way};
-use n41_results::SessionMade;
 use n41_said::{ahead, last_of, list_size, walk_most};
-use n41_types::{Command, Name, NoMemory, Path, Place, Plan, Sequence};
+use n41_types::{Claim, Command, Mode, Name, NoMemory, Path, Place, Plan, Sequence};
 use n41_view::Seat;
 use std::alloc::Global;
 
@@ -70,15 +74,71 @@ fn list(size: u32, at: &Place, listed: &Option<Listed>) -> Result<Option<Plan>, 
     })
 }
 
-/// What a command asks for at the end of its walk; so many bytes are asked of a directory at once.
-fn goal(size: u32, command: &Command, way: &Way) -> Result<Option<Plan>, NoMemory>
-    ensures { IfOk result (λ o. o ≡ goal size command.now way.now) }
+/// A file is made with the owner that opens it.
+fn create(
+    alloc: Global,
+    sight: &Sight,
+    at: &Place,
+    name: Option<&Name>,
+    guarded: bool,
+) -> Result<Option<Plan>, NoMemory>
+    ensures { IfOk result (λ o. o ≡ create at.now (option_copied name.entry) guarded sight.now.owner) }
+{
+    Ok(match name {
+        None => None,
+        Some(name) => Some(Plan::CreateFile {
+            dir: at.clone()?,
+            name: name.clone()?,
+            guarded,
+            owner: sight.owner(alloc)?,
+        }),
+    })
+}
+
+/// The root is opened by its filehandle, which a walk over no names tells.
+fn opening(alloc: Global, sight: &Sight, at: &Place, mode: Mode) -> Result<Option<Plan>, NoMemory>
+    ensures { IfOk result (λ o. o ≡ opening at.now mode sight.now.owner) }
+{
+    Ok(Some(match at {
+        Place::Root => Plan::Walk {
+            from: Place::Root,
+            names: Sequence::from_vec(alloc, Vec::new(alloc))?,
+        },
+        Place::At(fh) => Plan::OpenAt {
+            fh: fh.clone()?,
+            mode,
+            owner: sight.owner(alloc)?,
+            claim: Claim::Fh,
+        },
+    }))
+}
+
+/// What a command asks for at the end of its walk.
+fn goal(
+    alloc: Global,
+    sight: &Sight,
+    command: &Command,
+    way: &Way,
+) -> Result<Option<Plan>, NoMemory>
+    ensures { IfOk result (λ o. o ≡ goal sight.now command.now way.now) }
 {
     match command {
+        Command::Create { path, guarded, .. } => {
+            create(alloc, sight, &way.at, last_of(path.as_slice()), *guarded)
+        }
+        Command::OpenFile { mode, .. } => opening(alloc, sight, &way.at, *mode),
+        Command::Read { offset, count, .. } => {
+            read(read_most(sight.session), &sight.seen, *offset, *count)
+        }
+        Command::Write { offset, bytes, .. } => {
+            write(write_most(sight.session), &sight.seen, *offset, bytes)
+        }
+        Command::Truncate { size, .. } => resize(&sight.seen, *size),
+        Command::Close { .. } => close(way.stale, &sight.seen),
         Command::Stat { .. } => Ok(Some(Plan::Stat {
             at: way.at.clone()?,
         })),
-        Command::List { .. } => list(size, &way.at, &way.listed),
+        Command::List { .. } => list(list_size(sight.session), &way.at, &way.listed),
         Command::MakeDir { path } => make_dir(&way.at, last_of(path.as_slice())),
         Command::Remove { path } => remove(&way.at, last_of(path.as_slice())),
         Command::Rename { from, to } => rename(
@@ -101,23 +161,43 @@ fn first_names(alloc: Global, most: usize, names: &[Name]) -> Result<Path, NoMem
 
 /// The next plan of a command that has come so far, as this session's sizes allow.
 #[tactic(auto, using(crate::proofs::Begins::walk_next))]
-pub fn next_plan(
+fn next_plan(
     alloc: Global,
-    session: Option<SessionMade>,
+    sight: &Sight,
     command: &Option<Command>,
     way: &Way,
 ) -> Result<Option<Plan>, NoMemory>
-    ensures { IfOk result (λ o. o ≡ next_plan session command.now way.now) }
+    ensures { IfOk result (λ o. o ≡ next_plan sight.now command.now way.now) }
 {
     let Some(command) = command else {
         return Ok(None);
     };
     match ahead(command, way) {
-        [] => goal(list_size(session), command, way),
+        [] => goal(alloc, sight, command, way),
         names => Ok(Some(Plan::Walk {
             from: way.at.clone()?,
-            names: first_names(alloc, walk_most(session) as usize, names)?,
+            names: first_names(alloc, walk_most(sight.session) as usize, names)?,
         })),
+    }
+}
+
+impl Lookup<'_> {
+    /// The next plan of a caller's command, where the callers are of this user.
+    pub(crate) fn seat_plan(
+        &self,
+        alloc: Global,
+        uid: u32,
+        seat: &Seat,
+    ) -> Result<Option<Plan>, NoMemory>
+        ensures { IfOk result (λ o. o ≡ seat_plan self.now.facts uid self.now.files seat.now) }
+    {
+        let sight = Sight {
+            session: self.facts.session,
+            uid,
+            sessions: self.facts.sessions,
+            seen: self.files.seen(seat.way.handle),
+        };
+        next_plan(alloc, &sight, &seat.command, &seat.way)
     }
 }
 
@@ -128,13 +208,16 @@ fn has_last(path: &[Name]) -> bool
     last_of(path).is_some()
 }
 
-/// Whether a command that has come so far asks for anything at the end of its walk.
-#[tactic(auto, using(crate::proofs::Begins::has_listed, crate::proofs::Begins::has_made, crate::proofs::Begins::has_removed, crate::proofs::Begins::has_renamed))]
-fn has_goal(command: &Command, way: &Way) -> bool
-    ensures { (size : ℕ) → is_some (goal size command.now way.now) ≡ result }
+/// Whether a command that has come so far, and sees this of its handle, asks for anything at the end of its walk.
+#[tactic(auto, using(crate::proofs::Begins::has_created, crate::proofs::Begins::has_opening, crate::proofs::Begins::has_read, crate::proofs::Begins::has_written, crate::proofs::Begins::has_resized, crate::proofs::Begins::has_listed, crate::proofs::Begins::has_made, crate::proofs::Begins::has_removed, crate::proofs::Begins::has_renamed))]
+fn has_goal(seen: &Option<Seen>, command: &Command, way: &Way) -> bool
+    ensures { result ≡ is_some (goal (handle_alone seen.now) command.now way.now) }
 {
     match command {
-        Command::Stat { .. } => true,
+        Command::Create { path, .. } => has_last(path.as_slice()),
+        Command::OpenFile { .. } | Command::Stat { .. } => true,
+        Command::Read { .. } | Command::Write { .. } | Command::Truncate { .. } => seen.is_some(),
+        Command::Close { .. } => has_close(way.stale, seen),
         Command::List { .. } => way.listed.is_some(),
         Command::MakeDir { path } => has_last(path.as_slice()),
         Command::Remove { path } => has_last(path.as_slice()),
@@ -146,13 +229,13 @@ fn has_goal(command: &Command, way: &Way) -> bool
 }
 
 /// Whether the command has a next plan.
-pub fn has_next(seat: &Seat) -> bool
-    ensures { result ≡ has_next seat.now }
+pub fn has_next(files: &Files, seat: &Seat) -> bool
+    ensures { result ≡ has_next files.now seat.now }
 {
     match &seat.command {
         None => false,
         Some(command) => match ahead(command, &seat.way) {
-            [] => has_goal(command, &seat.way),
+            [] => has_goal(&files.seen(seat.way.handle), command, &seat.way),
             _ => true,
         },
     }
