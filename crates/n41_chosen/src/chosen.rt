@@ -1,15 +1,17 @@
-ghost use Rattle.std.specs.Prelude.{◌≡◌, None, Some, [], option_copied, if◌then◌else◌};
+ghost use Rattle.std.specs.Prelude.{◌≡◌, None, Some, Option, option_copied, if◌then◌else◌};
+ghost use Rattle.n41_types.specs.declared.plans.Request.{Request as RequestValue};
 ghost use Rattle.n41_model.specs.Requests.{slot_number};
 ghost use Rattle.n41_model.specs.Sessions.{passed};
 ghost use Rattle.n41_calls.specs.Calls.{is_ready_call, in_running};
-ghost use Rattle.n41_view.specs.declared.tables.Facts.{Facts};
-ghost use Rattle.n41_view.specs.Step.{call_of, sooner_seat, wants, chosen_from, caller_in, is_new_in, new_owner};
+ghost use Rattle.n41_view.specs.Step.{call_of, seat_sight, sooner_seat, wants, chosen_from, caller_in, is_new_in, new_owner};
+ghost use Rattle.n41_chosen.specs.Scenes.{scene};
 
 use crate::plans::is_next;
+use crate::waits::awaits;
+use n41_files::Files;
 use n41_model::Phase;
-use n41_results::SessionMade;
-use n41_said::holds;
-use n41_types::{Plan, Request};
+use n41_said::{Sight, holds};
+use n41_types::Request;
 use n41_view::{Facts, Seat, Slot};
 
 /// Whether two seconds have passed since then.
@@ -22,24 +24,38 @@ fn passed(since: Option<u64>, moment: u64) -> bool
     }
 }
 
-/// Whether the caller's command can go on: it has no answer yet, no request out, and is not in its two seconds.
-fn is_ready(moment: u64, seat: &Seat) -> bool
-    ensures { result ≡ is_ready_call moment seat.now.command (call_of seat.now) }
+/// Whether the caller's command can go on: it has no answer yet, no request out, is not in its two seconds, and waits for no open.
+fn is_ready(moment: u64, waits: bool, seat: &Seat) -> bool
+    ensures { result ≡ is_ready_call moment seat.now.command waits (call_of seat.now) }
 {
     match &seat.command {
         None => false,
-        Some(_) => !seat.busy && seat.earned.is_none() && passed(seat.since, moment),
+        Some(_) => !seat.busy && seat.earned.is_none() && passed(seat.since, moment) && !waits,
     }
 }
 
-/// Whether the caller's command can go on, with this plan.
-fn wants(moment: u64, session: Option<SessionMade>, plan: &Plan, seat: &Seat) -> bool
-    ensures { result ≡ wants moment session plan.now seat.now }
+/// What a caller of this user sees.
+pub fn sight_of<'a>(facts: &Facts, uid: u32, files: &'a Files, seat: &Seat) -> Sight<'a>
+    ensures { result ≡ seat_sight facts.now uid files.now seat.now }
 {
-    match &seat.command {
-        None => false,
-        Some(command) => is_ready(moment, seat) && is_next(session, command, &seat.way, plan),
+    Sight {
+        session: facts.session,
+        uid,
+        sessions: facts.sessions,
+        seen: files.seen(seat.way.handle),
     }
+}
+
+/// Whether the caller's command can go on, and this request is its next.
+fn wants(facts: &Facts, slots: &[Slot], files: &Files, request: &Request, seat: &Seat) -> bool
+    ensures { result ≡ wants (scene facts.now slots.now files.now) request.now seat.now }
+{
+    let Some(command) = &seat.command else {
+        return false;
+    };
+    let sight = sight_of(facts, request.uid, files, seat);
+    let waits = awaits(slots, seat.way.stale, sight.seen.as_ref());
+    is_ready(facts.moment, waits, seat) && is_next(&sight, command, &seat.way, &request.plan)
 }
 
 /// Of two callers the one whose command began first.
@@ -56,36 +72,38 @@ fn sooner_seat<'a>(best: Option<&'a Seat>, seat: &'a Seat) -> &'a Seat
     }
 }
 
-/// The better of these for a request with this plan.
+/// The better of these for a request.
 fn better<'a>(
-    moment: u64,
-    session: Option<SessionMade>,
-    plan: &Plan,
+    facts: &Facts,
+    slots: &[Slot],
+    files: &Files,
+    request: &Request,
     best: Option<&'a Seat>,
     seat: &'a Seat,
 ) -> Option<&'a Seat>
-    ensures { option_copied result ≡ (if wants moment session plan.now seat.now then Some (sooner_seat (option_copied best.entry) seat.now) else option_copied best.entry) }
+    ensures { option_copied result ≡ (if wants (scene facts.now slots.now files.now) request.now seat.now then Some (sooner_seat (option_copied best.entry) seat.now) else option_copied best.entry) }
 {
-    if wants(moment, session, plan, seat) {
+    if wants(facts, slots, files, request, seat) {
         Some(sooner_seat(best, seat))
     } else {
         best
     }
 }
 
-/// The caller, of these and the best of those before, whose command began first and wants this plan.
+/// The caller, of these and the best of those before, whose command began first and wants this request.
 fn chosen_from<'a>(
-    moment: u64,
-    session: Option<SessionMade>,
-    plan: &Plan,
+    facts: &Facts,
+    slots: &[Slot],
+    files: &Files,
+    request: &Request,
     best: Option<&'a Seat>,
     seats: &'a [Seat],
 ) -> Option<&'a Seat>
-    ensures { option_copied result ≡ chosen_from moment session plan.now (option_copied best.entry) seats.now }
+    ensures { option_copied result ≡ chosen_from (scene facts.now slots.now files.now) request.now (option_copied best.entry) seats.now }
 {
     let mut best = best;
     for seat in seats {
-        best = better(moment, session, plan, best, seat);
+        best = better(facts, slots, files, request, best, seat);
     }
     best
 }
@@ -101,8 +119,8 @@ fn caller_in(seat: Option<&Seat>) -> Option<u32>
 }
 
 /// Whether the request is not out yet on the slot that it is for.
-fn is_new(slots: &[Slot], request: &Request) -> bool
-    ensures { (f : Facts) → result ≡ is_new_in (record { facts = f; bare = None; slots = slots.now; seats = [] }) request.now (slot_number request.now.slot) }
+fn is_new(facts: &Facts, slots: &[Slot], files: &Files, request: &Request) -> bool
+    ensures { result ≡ is_new_in (scene facts.now slots.now files.now) request.now (slot_number request.now.slot) }
 {
     let Some(used) = request.slot else {
         return true;
@@ -113,22 +131,35 @@ fn is_new(slots: &[Slot], request: &Request) -> bool
     }
 }
 
-/// The caller that a request with this plan is for: none outside phase Running.
-fn running_owner(facts: &Facts, seats: &[Seat], plan: &Plan) -> Option<u32>
-    ensures { result ≡ in_running facts.now.phase (caller_in (chosen_from facts.now.moment facts.now.session plan.now None seats.now)) }
+/// The caller whose a new request is: none outside phase Running.
+fn running_owner(
+    facts: &Facts,
+    slots: &[Slot],
+    files: &Files,
+    seats: &[Seat],
+    request: &Request,
+) -> Option<u32>
+    ensures { result ≡ in_running facts.now.phase (caller_in (chosen_from (scene facts.now slots.now files.now) request.now None seats.now)) }
 {
     match facts.phase {
-        Phase::Running => { caller_in(chosen_from(facts.moment, facts.session, plan, None, seats)) }
+        Phase::Running => caller_in(chosen_from(facts, slots, files, request, None, seats)),
         _ => None,
     }
 }
 
-/// The caller whose a request is that is put; None where it is the client's own or was put before.
-pub fn new_owner(facts: &Facts, slots: &[Slot], seats: &[Seat], request: &Request) -> Option<u32>
-    ensures { result ≡ new_owner (record { facts = facts.now; bare = None; slots = slots.now; seats = seats.now }) request.now }
+/// The caller whose a request is that is put; None where it is the client's own or was put before. The request without a slot that is
+/// out says nothing about that.
+pub fn new_owner(
+    facts: &Facts,
+    slots: &[Slot],
+    files: &Files,
+    seats: &[Seat],
+    request: &Request,
+) -> Option<u32>
+    ensures { (bare : Option RequestValue) → result ≡ new_owner (record { facts = facts.now; bare = bare; slots = slots.now; seats = seats.now; files = files.now }) request.now }
 {
-    if is_new(slots, request) {
-        running_owner(facts, seats, &request.plan)
+    if is_new(facts, slots, files, request) {
+        running_owner(facts, slots, files, seats, request)
     } else {
         None
     }

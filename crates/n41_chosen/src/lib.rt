@@ -2,6 +2,9 @@
 #![tactic(auto)]
 
 mod chosen;
+mod owners;
 mod plans;
+mod waits;
 
-pub use chosen::new_owner;
+pub use chosen::{new_owner, sight_of};
+pub use waits::{awaits, hour, open_held};

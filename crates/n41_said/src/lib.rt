@@ -6,6 +6,7 @@ mod kept;
 mod listings;
 mod phases;
 mod said;
+mod sights;
 mod steps;
 mod ways;
 
@@ -19,5 +20,6 @@ pub use phases::{
     broke_phase, dialed_phase, is_step_of, is_step_said, puts_off, reply_phase, worked,
 };
 pub use said::{Said, has, held_with, holds, is_out};
+pub use sights::{Sight, read_most, write_most};
 pub use steps::{Brought, Hour, took_way};
 pub use ways::{ahead, last_of, walk_most, way_of};
