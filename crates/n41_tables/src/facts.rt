@@ -132,7 +132,10 @@ pub(crate) fn took_facts(facts: &mut Facts, said: &Said, misleads: bool, reply: 
     facts.slots = slots_after(made, facts.slots);
     facts.target = target_after(made, &reply.body, facts.target);
     facts.put_off = took_put_offs(facts.moment, said, facts.put_off);
-    facts.breach_at = place_or(facts.breach_at, breach_place(said, misleads, facts.events + 1));
+    facts.breach_at = place_or(
+        facts.breach_at,
+        breach_place(said, misleads, facts.events + 1),
+    );
 }
 
 /// A round ends.

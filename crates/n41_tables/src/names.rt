@@ -118,7 +118,9 @@ pub(crate) fn open_by(
     } else {
         None
     };
-    named_open(label, handle, command, way, plan, said.slot, reply, files, labels)
+    named_open(
+        label, handle, command, way, plan, said.slot, reply, files, labels,
+    )
 }
 
 /// A command was answered: the label of a handle that was closed names none.

@@ -98,13 +98,7 @@ fn place_of(request: &Request, count: usize) -> Option<usize>
 }
 
 /// A request is put on the slot that it is for, if there is one.
-fn put_slots(
-    moment: u64,
-    place: u64,
-    request: Request,
-    owner: Option<u32>,
-    slots: &mut [Slot],
-)
+fn put_slots(moment: u64, place: u64, request: Request, owner: Option<u32>, slots: &mut [Slot])
     requires { IsPlaced slot_place 0 slots.old }
     ensures { slots.new ≡ map (put_slot moment place request owner) slots.old }
 {

@@ -209,19 +209,20 @@ impl Tables {
         requires { self.old.facts.events + 1 < 2 ^ 64 }
         ensures { self.new ≡ record { facts = counted None (put_facts self.old request self.old.facts); bare = put_bare request self.old.bare; slots = map (put_slot self.old.facts.moment (suc self.old.facts.events) request (new_owner self.old request)) self.old.slots; seats = map (put_seat (new_owner self.old request)) self.old.seats; files = self.old.files } }
     {
-        let owner = new_owner(
-            &self.facts,
-            &self.slots,
-            &self.files,
-            &self.seats,
-            &request,
-        );
+        let owner = new_owner(&self.facts, &self.slots, &self.files, &self.seats, &request);
         let moment = self.facts.moment;
         let place = self.facts.events + 1;
         put_facts(&mut self.facts, self.bare.as_ref(), &self.slots, &request);
         counted(&mut self.facts, None);
         put_seats(owner, &mut self.seats);
-        put_request(moment, place, request, owner, &mut self.bare, &mut self.slots);
+        put_request(
+            moment,
+            place,
+            request,
+            owner,
+            &mut self.bare,
+            &mut self.slots,
+        );
     }
 
     /// A reply was taken, with what it brings: what it says moves handles, facts and seats, and then it ends what it answers. For want of memory
