@@ -1,4 +1,4 @@
-ghost use Rattle.std.specs.Prelude.{◌≡◌, ◌+◌, ◌<◌, ◌^◌, suc, Some, true, if◌then◌else◌, is_some, option_copied, IfOk, OnOk, OnErr};
+ghost use Rattle.std.specs.Prelude.{◌≡◌, ◌+◌, ◌<◌, ◌≤◌, ◌^◌, suc, Some, true, if◌then◌else◌, is_some, option_copied, IfOk, OnOk, OnErr};
 ghost use Rattle.n41_calls.specs.Values.{is_close};
 ghost use Rattle.n41_calls.specs.Files.{no_files, seen_at, is_alone, attached_by, opened_by, refreshed_by, lowered_by, closed_by, files_by, files_after, files_or, marked_at};
 ghost use Rattle.n41_calls.specs.Calls.{answered_files};
@@ -229,6 +229,7 @@ impl Files {
         requires { self.old.opened + 1 < 2 ^ 64 }
         ensures value { IfOk result (λ b. b ≡ is_some (files_after (option_copied command.entry) way.now plan.now verdict reply.now self.old)) }
         ensures files { OnOk result (self.new ≡ files_or self.old (files_after (option_copied command.entry) way.now plan.now verdict reply.now self.old)) }
+        ensures few { self.new.opened ≤ suc self.old.opened }
         ensures err { OnErr result (self.new ≡ self.old) }
     {
         let Some(Verdict::Ran(status)) = verdict else {
