@@ -1,4 +1,5 @@
-ghost use Rattle.std.specs.Prelude.{◌≡◌, ◌+◌, ◌-◌, ◌<◌, ◌≤◌, ◌^◌, None, Some, map, option_map, option_copied, slice_get, is_some, unwrap_or, if◌then◌else◌, IfOk, OnOk, OnErr};
+ghost use Rattle.std.specs.Prelude.{◌≡◌, ◌+◌, ◌-◌, ◌<◌, ◌≤◌, ◌^◌, None, Some, map, option_map, option_copied, slice_get, is_some, unwrap_or, ◌&&◌, true, if◌then◌else◌, IfOk, IfSome, OnOk, OnErr};
+ghost use Rattle.n41_model.specs.Replies.{is_final};
 ghost use Rattle.n41_calls.specs.Calls.{fresh_call, put_call, took_call, answered_call, is_put_off_by, labels_after, began_files, answered_files};
 ghost use Rattle.n41_calls.specs.Files.{files_or};
 ghost use Rattle.n41_calls.specs.Values.{listing_in, reached_in};
