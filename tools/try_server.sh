@@ -1,6 +1,7 @@
 #!/usr/bin/env bash
 # Tries the program against a real server and against bad peers, all on the loopback. One line a try; it ends by itself, with status 1 where a try fails.
 # The server is nfs-ganesha with its tree in memory. Without it nothing is tried.
+# With FILES=1 in the environment files are tried too, on a server that keeps its tree in a folder.
 set -u
 cd "$(dirname "$0")/.." || exit 1
 tools=$PWD/tools
@@ -115,13 +116,14 @@ answered_by() {
     probe "$1" "127.0.0.1:$(cat "$state/$1.port")"
 }
 
+# start_server KIND TREE: starts a server whose tree is MEM, in memory, or VFS, in the folder TREE, and waits for its port
 start_server() {
     local turn
     server_port=$(free_port)
-    mkdir -p "$state/recovery"
-    sed -e "s#@PORT@#$server_port#" -e "s#@STATE@#$state#" "$tools/ganesha.conf" >"$state/ganesha.conf"
-    ganesha.nfsd -F -f "$state/ganesha.conf" -L "$state/ganesha.log" -p "$state/ganesha.pid" -N NIV_EVENT \
-        >"$state/ganesha.out" 2>&1 </dev/null &
+    mkdir -p "$state/$1.recovery"
+    sed -e "s#@PORT@#$server_port#" -e "s#@STATE@#$state#" -e "s#@KIND@#$1#" -e "s#@TREE@#$2#" "$tools/ganesha.conf" >"$state/$1.conf"
+    ganesha.nfsd -F -f "$state/$1.conf" -L "$state/$1.log" -p "$state/$1.pid" -N NIV_EVENT \
+        >"$state/$1.printed" 2>&1 </dev/null &
     server_pid=$!
     started+=("$server_pid")
     for turn in $(seq 150); do
@@ -134,8 +136,8 @@ start_server() {
 
 try_server() {
     local line
-    if ! start_server; then
-        report "the server starts" 1 "$(tail -n 3 "$state/ganesha.log" 2>/dev/null)"
+    if ! start_server MEM /tree; then
+        report "the server starts" 1 "$(tail -n 3 "$state/MEM.log" 2>/dev/null)"
         return
     fi
     probe server "127.0.0.1:$server_port"
@@ -316,6 +318,41 @@ try_trace() {
     expect twice 1 "event $(wc -l <"$state/twice.journal") breaks answers" ""
 }
 
+# files_through KIND EVERY CUTS: 8 callers write and read files of 1 MiB, each one of its own and then all one, while each EVERYth record of the server is lost with
+# its connection, CUTS of them at least. What is printed is what was written, and so are the files in the server's own folder.
+files_through() {
+    local given=$state/$1.given name file went
+    mkdir -p "$given"
+    python3 "$tools/file_scripts.py" "$given" "$1"
+    relay "$1" "$2"
+    for name in apart made shared; do
+        start "$1-$name" "$given/$name.script" run "127.0.0.1:$(cat "$state/$1.port")"
+        [ "$(cat "$state/$1-$name.status")" = 0 ] && cmp -s "$state/$1-$name.out" "$given/$name.out"
+        went=$?
+        report "files, $1, $name, through $(cat "$state/$1.wire/cuts" 2>/dev/null || echo 0) cuts so far" "$went" \
+            "status $(cat "$state/$1-$name.status"), $(diff <(cut -c-60 "$given/$name.out") <(cut -c-60 "$state/$1-$name.out") | head -n 4 | tr '\n' ';'), fault '$(cat "$state/$1-$name.err")'"
+    done
+    for file in "$given"/tree/*; do
+        cmp "$file" "$state/tree/${file##*/}" 2>&1
+    done >"$state/$1.differ"
+    [ "$(ls "$given/tree" | wc -l)" -eq 9 ] && [ ! -s "$state/$1.differ" ] && [ "$(cat "$state/$1.wire/cuts" 2>/dev/null || echo 0)" -ge "$3" ]
+    report "files, $1, in the server's folder" $? "$(head -n 3 "$state/$1.differ")"
+}
+
+try_files() {
+    if ! ls /usr/lib/*/ganesha/libfsalvfs.so >/dev/null 2>&1; then
+        echo "skipped: files, since nfs-ganesha-vfs is not installed"
+        return
+    fi
+    mkdir -p "$state/tree"
+    if ! start_server VFS "$state/tree"; then
+        report "the server of files starts" 1 "$(tail -n 3 "$state/VFS.log" 2>/dev/null)"
+        return
+    fi
+    files_through whole 0 0
+    files_through cut 25 12
+}
+
 try_nobody() {
     local begin end
     begin=$(date +%s%N)
@@ -343,6 +380,9 @@ try_many
 try_changes
 try_list
 try_trace
+if [ "${FILES-}" = 1 ]; then
+    try_files
+fi
 try_nobody
 start nowhere /dev/null run
 expect nowhere 2 "" "bad word at 2"

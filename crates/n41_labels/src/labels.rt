@@ -1,7 +1,7 @@
 ghost use Rattle.std.specs.Prelude.{◌≡◌, [], nat_eq, IfOk, OnOk, OnErr};
 ghost use Rattle.std.specs.Ordering.{nat_cmp};
 ghost use Rattle.std.specs.Cmp.Lexicographic.{pointwise, slice_cmp};
-ghost use Rattle.std.specs.Map.{lookup, remove_entry};
+ghost use Rattle.std.specs.Map.{lookup, remove_entry, set_value};
 ghost use Rattle.std.specs.BTreeMap.{insert_entry};
 
 use n41_types::{Label, NoMemory};
@@ -59,6 +59,15 @@ impl Labels {
         match self.handles.insert(own, handle) {
             Ok(_before) => Ok(()),
             Err(_failed) => Err(AllocError),
+        }
+    }
+
+    /// A label that names a handle names this one in its place. It takes no memory.
+    pub fn rebind(&mut self, label: &Label, handle: u64)
+        ensures { self.new ≡ set_value (pointwise nat_eq label.now) self.old handle }
+    {
+        if let Some(named) = self.handles.get_mut(label.as_slice()) {
+            *named = handle;
         }
     }
 

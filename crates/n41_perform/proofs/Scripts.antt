@@ -8,7 +8,7 @@ use Rattle.n41_calls.specs.Calls.{is_built, is_none_left}
 use Rattle.n41_words.specs.Lines.{lines, words, is_skipped, is_empty}
 use Rattle.n41_words.specs.Words.{has_control, same}
 use Rattle.n41_commands.specs.Callers.{is_caller, is_kept}
-use Rattle.n41_commands.specs.Commands.{next, ended, command_with, onward, seconds, verb_of}
+use Rattle.n41_commands.specs.Commands.{next, ended, command_with, onward, label, mode_of, offset, count, payload, seconds, verb_of}
 use Rattle.n41_commands.specs.Heads.{ids, owner, owner_word}
 use Rattle.n41_commands.specs.declared.heads.Ids.{Ids}
 use Rattle.n41_commands.specs.Paths.{path, target, named}
@@ -16,7 +16,8 @@ use Rattle.n41_commands.specs.declared.verb.Verb.{Verb}
 use Rattle.n41_commands.specs.declared.verb.Verb.TheVariants as verb
 use Rattle.n41_script.specs.Lines.{is_long, readable}
 use Rattle.n41_script.specs.Callers.{is_too_many, place, caller_limit, caller}
-use Rattle.n41_script.specs.Commands.{command_of, built_verb, room_for}
+use Rattle.n41_script.specs.Commands.{command_of, built_verb, is_twice, room_for}
+use Rattle.n41_script.specs.Names.{was_opened}
 use Rattle.n41_script.specs.Commands as script
 use Rattle.n41_script.specs.Scripts.{Said, nothing, is_full, may_stand, with_ids, with_owner, after_head, with_command, after_words, then_line, after_lines, owner_of, IsScript}
 use Rattle.n41_words.specs.declared.fault.LineKind.{LineKind}
@@ -70,6 +71,16 @@ both true b g h = h
 both false b g h = absurd (cc)
 
 with_built : (v : Verb) (long : Bool) (ws : List (List ℕ)) → script.is_built v ≡ true → Built (command_with v long ws)
+with_built verb.Create long ws h = next_built long ws label _ (λ w l vs e. next_built long vs target _ (λ u p us f. ended_built long us (command.Create l p false) (target_some u p f)))
+with_built verb.New long ws h = next_built long ws label _ (λ w l vs e. next_built long vs target _ (λ u p us f. ended_built long us (command.Create l p true) (target_some u p f)))
+with_built verb.Open long ws h =
+    next_built long ws label _ (λ w l vs e. next_built long vs path _ (λ u p us f. next_built long us mode_of _ (λ t m ts g. ended_built long ts (command.OpenFile l p m) refl)))
+with_built verb.Read long ws h =
+    next_built long ws label _ (λ w l vs e. next_built long vs offset _ (λ u o us f. next_built long us count _ (λ t n ts g. ended_built long ts (command.Read l o n) refl)))
+with_built verb.Write long ws h =
+    next_built long ws label _ (λ w l vs e. next_built long vs offset _ (λ u o us f. next_built long us payload _ (λ t b ts g. ended_built long ts (command.Write l o b) refl)))
+with_built verb.Truncate long ws h = next_built long ws label _ (λ w l vs e. next_built long vs offset _ (λ u z us f. ended_built long us (command.Truncate l z) refl))
+with_built verb.Close long ws h = next_built long ws label _ (λ w l vs e. ended_built long vs (command.Close l) refl)
 with_built verb.Stat long ws h = next_built long ws path _ (λ w p vs e. ended_built long vs (command.Stat p) refl)
 with_built verb.List long ws h = next_built long ws path _ (λ w p vs e. ended_built long vs (command.List p) refl)
 with_built verb.Pause long ws h = next_built long ws seconds _ (λ w s vs e. ended_built long vs (command.Pause s) refl)
@@ -87,11 +98,11 @@ verb_of_built : (r : Result Verb LineKind) (v : Verb) → onward r (λ u. if scr
 verb_of_built (Ok u) v h = verb_built (script.is_built u) u v refl h
 verb_of_built (Err k) v h = absurd (cc)
 
-command_built : (full long : Bool) (ws : List (List ℕ)) → Built (command_of full long ws)
-command_built full long [] = tt
-command_built full long (w ∷ ws) =
+command_built : (full : Bool) (opened : List ℕ → Bool) (long : Bool) (ws : List (List ℕ)) → Built (command_of full opened long ws)
+command_built full opened long [] = tt
+command_built full opened long (w ∷ ws) =
     either_built (has_control w) _ _ tt
-    (onward_built (built_verb w) (λ v. room_for full long ws v) (λ v e. either_built full _ _ tt (with_built v long ws (verb_of_built (verb_of w) v e))))
+    (onward_built (built_verb w) (λ v. room_for full opened long ws v) (λ v e. either_built full _ _ tt (either_built (is_twice opened v ws) _ _ tt (with_built v long ws (verb_of_built (verb_of w) v e)))))
 
 -- a short owner, few callers, and commands that are built
 record Fine (s : Said) : Type 0 where
@@ -157,7 +168,7 @@ head_fine s long w ws f =
 words_fine : (s : Said) (long : Bool) (ws : List (List ℕ)) → Fine s → IfOk (after_words s long ws) Fine
 words_fine s long [] f = tt
 words_fine s long (w ∷ ws) f =
-    if_fine (has_control w) _ _ tt (λ _. if_fine (is_kept w) _ _ (head_fine s long w ws f) (λ _. or_fault (is_caller w) _ _ (if_fine (is_too_many s.callers w) _ _ tt (λ e. command_fine s w (command_of (is_full s) long ws) e f (command_built (is_full s) long ws)))))
+    if_fine (has_control w) _ _ tt (λ _. if_fine (is_kept w) _ _ (head_fine s long w ws f) (λ _. or_fault (is_caller w) _ _ (if_fine (is_too_many s.callers w) _ _ tt (λ e. command_fine s w (command_of (is_full s) (was_opened s.lines (caller s.callers w)) long ws) e f (command_built (is_full s) (was_opened s.lines (caller s.callers w)) long ws)))))
 
 line_fine : (r : Result Said LineKind) (line : List ℕ) → IfOk r Fine → IfOk (then_line r line) Fine
 line_fine (Ok s) line f = if_fine (is_skipped line) (Ok s) (after_words s (is_long line) (words (readable line))) f (λ _. words_fine s (is_long line) (words (readable line)) f)

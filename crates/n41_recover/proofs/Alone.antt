@@ -2,11 +2,7 @@
 use Rattle.std.proofs.Common.{◌≡◌, ℕ, zero, suc, ◌+◌, ◌<◌, ◌≤◌, ◌==◌, Bool, true, false, ◌&&◌, ◌||◌, not, List, [], ◌∷◌, Option, Some, None, if◌then◌else◌, refl, sym, ◌∙◌, ap, subst, arith}
 use Rattle.std.proofs.lemmas.Bool.Decides.{nat_tests}
 use Rattle.std.specs.Prelude.{is_none}
-use Rattle.n41_types.specs.declared.commands.Command.{Command}
-use Rattle.n41_types.specs.declared.commands.Command.TheVariants as asks
-use Rattle.n41_types.specs.declared.plans.Place.TheVariants.{Root}
 use Rattle.n41_types.specs.declared.plans.Plan.{Plan}
-use Rattle.n41_types.specs.declared.plans.Plan.TheVariants as plan
 use Rattle.n41_types.specs.declared.plans.Request.{Request}
 use Rattle.n41_results.specs.declared.replies.Reply.{Reply}
 use Rattle.n41_results.specs.declared.sessions.SessionMade.{SessionMade}
@@ -18,7 +14,7 @@ use Rattle.n41_model.specs.declared.words.Setup.{Setup}
 use Rattle.n41_model.specs.Replies.{is_final}
 use Rattle.n41_model.specs.Requests.{outs, out, bares, bare, bare_waits, moment, made, is_on, is_bare, has_xid}
 use Rattle.n41_model.specs.Sessions.{session, slots, free_slot, next_xid, phase, put_off, passed, is_lease_time, is_empty}
-use Rattle.n41_calls.specs.Calls.{command, call, plan_next, owner}
+use Rattle.n41_calls.specs.Calls.{command, call, files, sight_of, plan_next, owner}
 use Rattle.n41_recover.proofs.Plans.{NotLease, next_not}
 use Rattle.n41_calls.specs.Kept.{Kept, May}
 use Rattle.n41_calls.specs.Due.{item_due, with_plan, on_free, on_free_slot, bare_with, bare_due, step_plan, own_plan, destroy_plan, finishing, own_from, any_own, may_retry, may_step, may_own, may_begin, may_destroy, is_open}
@@ -116,14 +112,14 @@ item_same u js item.Own r q s t k o a e f g h =
     let b = only_if_some (may_own u js) (with_plan (own_plan js) (on_free_slot u js)) r e in
     absurd (no_other u js s q k o b.0 g h)
 item_same u js (item.Fresh c) r q s t k o a e f g h =
-    let b = only_if_some (may_begin u js c) (with_plan (plan_next u.callers js c) (on_free_slot u js)) r e in
-    let d = fresh_plan u js (plan_next u.callers js c) r (next_not (session js) (command js c) (call u.callers js c).way) b.1 in
+    let b = only_if_some (may_begin u js c) (with_plan (plan_next u.uid u.callers js c) (on_free_slot u js)) r e in
+    let d = fresh_plan u js (plan_next u.uid u.callers js c) r (next_not (sight_of js u.uid (files u.callers js) (call u.callers js c)) (command js c) (call u.callers js c).way) b.1 in
     let l = and_left (is_lease_time r.plan) (not (is_bare r)) f in
     let z : true ≡ false = sym l ∙ d in
     absurd (cc)
 item_same u js item.Destroy r q s t k o a e f g h =
-    let b = only_if_some (may_destroy u js) (with_plan (destroy_plan js) (bare_due u js)) r e in
-    let p = with_plan_some (destroy_plan js) (bare_due u js) r b.1 in
+    let b = only_if_some (may_destroy u js) (with_plan (destroy_plan u.callers js) (bare_due u js)) r e in
+    let p = with_plan_some (destroy_plan u.callers js) (bare_due u js) r b.1 in
     absurd (bare_no_lease r (bare_is u p.0 (next_xid js) r p.1) f)
 
 other_put : (js : List Event) (s : ℕ) (r q : Request) → Seats js → Known js → Placed js r → out js s ≡ Some q → is_lease q ≡ true → is_lease r ≡ false → lease js ≡ Some q.xid → (b : Bool) → is_xid (lease js) r.xid ≡ b → (if b then None else lease js) ≡ Some q.xid
@@ -166,7 +162,7 @@ took_alone js c p y t a = λ s q e f.
 
 step_alone : (u : Setup) (js : List Event) (e : Event) → May u js e → Seats js → Known js → Own u.callers js → Alone js → Alone (e ∷ js)
 step_alone u js (Began c n k m) h t v o a = a
-step_alone u js (Put c p r) h t v o a = λ s q e f. put_alone u js c p h.0 r t v (put_placed u js h.0 r h.1.is_due) o a (only_if_some (is_open js) (item_due u js h.0) r h.1.is_due).1 s q (is_on r s) refl e f
+step_alone u js (Put c p r) h t v o a = λ s q e f. put_alone u js c p h.0 r t v (put_placed u js h.0 r h.1.is_due) o a (only_if_some (is_open u.callers js) (item_due u js h.0) r h.1.is_due).1 s q (is_on r s) refl e f
 step_alone u js (Took c p y) h t v o a = took_alone js c p y t a
 step_alone u js (CbTook c p x) h t v o a = absurd h
 step_alone u js (CbPut c p x) h t v o a = absurd h

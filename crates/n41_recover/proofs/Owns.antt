@@ -1,7 +1,6 @@
 -- The request for the lease time is the client's own.
 use Rattle.std.proofs.Common.{◌≡◌, ℕ, Bool, true, false, ◌&&◌, not, List, [], ◌∷◌, Option, Some, None, if◌then◌else◌, refl, sym, ◌∙◌, ap, subst, arith}
 use Rattle.std.proofs.lemmas.Bool.Decides.{nat_tests}
-use Rattle.n41_types.specs.declared.plans.Plan.{Plan}
 use Rattle.n41_types.specs.declared.plans.Plan.TheVariants as plan
 use Rattle.n41_types.specs.declared.plans.Request.{Request}
 use Rattle.n41_results.specs.declared.replies.Reply.{Reply}
@@ -35,8 +34,8 @@ none_if false o e = refl
 unowned : (n : ℕ) (js : List Event) (r : Request) → is_lease r ≡ true → put_owner n js r ≡ None
 unowned n js r e =
     let p : r.plan ≡ plan.LeaseTime = plan_is r.plan (and_left (is_lease_time r.plan) (not (is_bare r)) e) in
-    let d : in_running (phase js) (chosen js (ledger n js).calls r.plan n) ≡ None = ap (λ (q : Plan). in_running (phase js) (chosen js (ledger n js).calls q n)) p ∙ (ap (λ (o : Option ℕ). in_running (phase js) o) (none_chosen js (ledger n js).calls n) ∙ in_none (phase js)) in
-    none_if (is_new js r (slot_number r.slot)) (in_running (phase js) (chosen js (ledger n js).calls r.plan n)) d
+    let d : in_running (phase js) (chosen js (ledger n js) r n) ≡ None = ap (λ (o : Option ℕ). in_running (phase js) o) (none_chosen js (ledger n js) r n p) ∙ in_none (phase js) in
+    none_if (is_new js r (slot_number r.slot)) (in_running (phase js) (chosen js (ledger n js) r n)) d
 
 -- what is out on the slots keeps its owner
 abbrev pub Own : ℕ → List Event → Type 0

@@ -3,27 +3,31 @@ use Rattle.std.proofs.Common.{◌≡◌, ℕ, zero, suc, Bool, true, false, ◌&
 use Rattle.n41_types.specs.declared.commands.Command.{Command}
 use Rattle.n41_types.specs.declared.commands.Command.TheVariants as asks
 use Rattle.n41_types.specs.declared.plans.Place.{Place}
+use Rattle.n41_types.specs.declared.plans.Place.TheVariants.{Root, At}
 use Rattle.n41_types.specs.declared.plans.Plan.{Plan}
 use Rattle.n41_types.specs.declared.plans.Plan.TheVariants as plan
 use Rattle.n41_types.specs.declared.plans.Request.{Request}
+use Rattle.n41_types.specs.declared.spans.Mode.{Mode}
 use Rattle.n41_types.specs.declared.statuses.Status.{Status}
 use Rattle.n41_types.specs.Plans.{class_of}
 use Rattle.n41_results.specs.declared.replies.ReplyBody.{ReplyBody}
 use Rattle.n41_results.specs.declared.replies.ReplyBody.TheVariants.{Denied, Rejected, Results}
 use Rattle.n41_results.specs.declared.results.Res.{Res}
 use Rattle.n41_results.specs.declared.results.Res.TheVariants as res
-use Rattle.n41_results.specs.declared.sessions.SessionMade.{SessionMade}
 use Rattle.n41_journal.specs.declared.events.Event.{Event}
 use Rattle.n41_model.specs.declared.words.Phase.{Phase}
 use Rattle.n41_model.specs.declared.words.Phase.TheVariants.{Down, Binding, Session, ClientId, Settling, Reclaiming, Completing, Running, Dead}
 use Rattle.n41_model.specs.declared.words.Listed.{Listed}
+use Rattle.n41_model.specs.declared.words.Stale.{Stale}
 use Rattle.n41_model.specs.declared.words.Way.{Way}
 use Rattle.n41_model.specs.declared.words.Verdict.{Verdict}
 use Rattle.n41_model.specs.declared.words.Verdict.TheVariants as v
-use Rattle.n41_model.specs.Replies.{is_breach, is_ok, is_delay, is_not_bound, is_uncached, is_size_refusal, is_reading, has_its_answer, repeats, sequenced_verdict, body_verdict, bare_body_verdict}
-use Rattle.n41_model.specs.Requests.{moment}
-use Rattle.n41_model.specs.Sessions.{is_lease_time, session, slot_phase}
-use Rattle.n41_calls.specs.Calls.{Call, command, ahead, goal, last_of, list, make_dir, remove, rename, next_plan, walk_most, list_size, walk_or, is_plan, is_ready_call, chosen, sooner, in_running}
+use Rattle.n41_model.specs.Replies.{is_breach, is_delay, is_not_bound, is_uncached, is_size_refusal, is_reading, is_unlawful, repeats, sequenced_verdict, body_verdict, bare_body_verdict}
+use Rattle.n41_model.specs.Sessions.{is_lease_time, slot_phase}
+use Rattle.n41_opens.specs.declared.answers.Shrink.{Shrink}
+use Rattle.n41_opens.specs.declared.answers.Shrink.TheVariants.{Keep, Downgrade, Close}
+use Rattle.n41_calls.specs.Walks.{Seen, Sight, ahead, goal, last_of, create, opening, read, read_most, write, write_most, resize, close, close_after, shrinks, refresh, is_keep, list, list_size, make_dir, remove, rename, next_plan, walk_most, walk_or, is_plan}
+use Rattle.n41_calls.specs.Calls.{Ledger, command, chosen, sooner, in_running, is_ready_in, plan_in_call, sight_of}
 use Rattle.n41_recover.specs.Recovery.{kind_of}
 use Rattle.n41_recover.specs.Step.{kind_verdict, told_run, told_verdict}
 
@@ -126,32 +130,78 @@ list_not : (size : ℕ) (at : Place) (l : Option Listed) → NotLease (list size
 list_not size at None = tt
 list_not size at (Some l) = (refl, refl)
 
-goal_not : (size : ℕ) (k : Command) (w : Way) → NotLease (goal size k w)
-goal_not size (asks.Stat p) w = (refl, refl)
-goal_not size (asks.List p) w = list_not size w.at w.listed
-goal_not size (asks.MakeDir p) w = make_not w.at (last_of p)
-goal_not size (asks.Remove p) w = remove_not w.at (last_of p)
-goal_not size (asks.Rename p q) w = rename_not w.old (last_of p) w.at (last_of q)
-goal_not size k w = tt
+create_not : (at : Place) (o : Option (List ℕ)) (g : Bool) (w : List ℕ) → NotLease (create at o g w)
+create_not at None g w = tt
+create_not at (Some n) g w = (refl, refl)
+
+opening_not : (at : Place) (m : Mode) (w : List ℕ) → NotLease (opening at m w)
+opening_not Root m w = (refl, refl)
+opening_not (At fh) m w = (refl, refl)
+
+read_not : (most : ℕ) (h : Option Seen) (o n : ℕ) → NotLease (read most h o n)
+read_not most None o n = tt
+read_not most (Some h) o n = (refl, refl)
+
+write_not : (most : ℕ) (h : Option Seen) (o : ℕ) (b : List ℕ) → NotLease (write most h o b)
+write_not most None o b = tt
+write_not most (Some h) o b = (refl, refl)
+
+resize_not : (h : Option Seen) (z : ℕ) → NotLease (resize h z)
+resize_not None z = tt
+resize_not (Some h) z = (refl, refl)
+
+shrinks_not : (h : Seen) (c : Shrink) → NotLease (shrinks h c)
+shrinks_not h Keep = tt
+shrinks_not h (Downgrade m s) = (refl, refl)
+shrinks_not h (Close s) = (refl, refl)
+
+refresh_not : (b : Bool) (h : Seen) → NotLease (if b then Some (refresh h) else shrinks h h.shrink)
+refresh_not true h = (refl, refl)
+refresh_not false h = shrinks_not h h.shrink
+
+close_after_not : (t : Option Stale) (h : Seen) → NotLease (close_after t h)
+close_after_not None h = shrinks_not h h.shrink
+close_after_not (Some t) h = refresh_not (t.alone && not (is_keep h.shrink)) h
+
+close_not : (t : Option Stale) (h : Option Seen) → NotLease (close t h)
+close_not t None = tt
+close_not t (Some h) = close_after_not t h
+
+goal_not : (s : Sight) (k : Command) (w : Way) → NotLease (goal s k w)
+goal_not s (asks.Create l p g) w = create_not w.at (last_of p) g s.owner
+goal_not s (asks.OpenFile l p m) w = opening_not w.at m s.owner
+goal_not s (asks.Read l o n) w = read_not (read_most s.session) s.seen o n
+goal_not s (asks.Write l o b) w = write_not (write_most s.session) s.seen o b
+goal_not s (asks.Truncate l z) w = resize_not s.seen z
+goal_not s (asks.Close l) w = close_not w.stale s.seen
+goal_not s (asks.Stat p) w = (refl, refl)
+goal_not s (asks.List p) w = list_not (list_size s.session) w.at w.listed
+goal_not s (asks.MakeDir p) w = make_not w.at (last_of p)
+goal_not s (asks.Remove p) w = remove_not w.at (last_of p)
+goal_not s (asks.Rename p q) w = rename_not w.old (last_of p) w.at (last_of q)
+goal_not s k w = tt
 
 -- no command asks for the lease time
-pub next_not : (m : Option SessionMade) (k : Option Command) (w : Way) → NotLease (next_plan m k w)
-next_not m None w = tt
-next_not m (Some k) w = walk_not (walk_most m) w.at (ahead k w) (goal (list_size m) k w) (goal_not (list_size m) k w)
+pub next_not : (s : Sight) (k : Option Command) (w : Way) → NotLease (next_plan s k w)
+next_not s None w = tt
+next_not s (Some k) w = walk_not (walk_most s.session) w.at (ahead k w) (goal s k w) (goal_not s k w)
 
-not_plan : (o : Option Plan) → NotLease o → is_plan o plan.LeaseTime ≡ false
-not_plan None h = refl
-not_plan (Some p) h = h.1
+-- and so none is next that does
+not_plan : (o : Option Plan) (p : Plan) → NotLease o → p ≡ plan.LeaseTime → is_plan o p ≡ false
+not_plan None p h e = refl
+not_plan (Some o) p h e = ap (λ (q : Plan). is_plan (Some o) q) e ∙ h.1
 
 and_none : (a b : Bool) → b ≡ false → (a && b) ≡ false
 and_none true b e = e
 and_none false b e = refl
 
-pub none_chosen : (js : List Event) (calls : ℕ → Call) (n : ℕ) → chosen js calls plan.LeaseTime n ≡ None
-none_chosen js calls zero = refl
-none_chosen js calls (suc c) =
-    let e = and_none (is_ready_call (moment js) (command js c) (calls c)) (is_plan (next_plan (session js) (command js c) (calls c).way) plan.LeaseTime) (not_plan (next_plan (session js) (command js c) (calls c).way) (next_not (session js) (command js c) (calls c).way)) in
-    ap (λ (b : Bool). if b then sooner js (chosen js calls plan.LeaseTime c) c else chosen js calls plan.LeaseTime c) e ∙ none_chosen js calls c
+-- a request for the lease time is chosen for no caller
+pub none_chosen : (js : List Event) (l : Ledger) (r : Request) (n : ℕ) → r.plan ≡ plan.LeaseTime → chosen js l r n ≡ None
+none_chosen js l r zero p = refl
+none_chosen js l r (suc c) p =
+    let o = next_not (sight_of js r.uid l.files (l.calls c)) (command js c) (l.calls c).way in
+    let e = and_none (is_ready_in js l.files c (l.calls c)) (is_plan (plan_in_call js r.uid l.files c (l.calls c)) r.plan) (not_plan (plan_in_call js r.uid l.files c (l.calls c)) r.plan o p) in
+    ap (λ (b : Bool). if b then sooner js (chosen js l r c) c else chosen js l r c) e ∙ none_chosen js l r c p
 
 pub in_none : (f : Phase) → in_running f None ≡ None
 in_none Down = refl
@@ -185,9 +235,9 @@ refusal_if false false true z a s e = uncached_if a e
 refusal_if false false false z a s e = refl
 
 run_told : (p : Plan) (t : Bool) (s : Status) (xs : List Res) → is_breach (sequenced_verdict p t s xs) ≡ false → sequenced_verdict p t s xs ≡ told_run s xs
-run_told p t s [] e = ran_if (is_ok s && not (has_its_answer p [])) s e
-run_told p t s (x ∷ []) e = single_if (is_uncached s) (t && is_reading (class_of p)) (is_ok s && not (has_its_answer p (x ∷ []))) s e
-run_told p t s (x ∷ z ∷ xs) e = ran_if (is_ok s && not (has_its_answer p (x ∷ z ∷ xs))) s e
+run_told p t s [] e = ran_if (is_unlawful p s []) s e
+run_told p t s (x ∷ []) e = single_if (is_uncached s) (t && is_reading (class_of p)) (is_unlawful p s (x ∷ [])) s e
+run_told p t s (x ∷ z ∷ xs) e = ran_if (is_unlawful p s (x ∷ z ∷ xs)) s e
 
 repeated : (b : Bool) (w z : Verdict) → (is_breach w ≡ false → w ≡ z) → is_breach (if b then w else v.Breach) ≡ false → (if b then w else v.Breach) ≡ z
 repeated true w z f e = f e

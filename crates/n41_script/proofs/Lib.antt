@@ -1,2 +1,4 @@
 pub mod Ends
+pub mod Keys
+pub mod Names
 pub mod Steps

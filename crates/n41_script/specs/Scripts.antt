@@ -8,6 +8,7 @@ use Rattle.n41_commands.specs.Heads.{ids, owner}
 use Rattle.n41_commands.specs.declared.heads.Ids.{Ids}
 use Rattle.n41_script.specs.Lines.{is_long, readable}
 use Rattle.n41_script.specs.Callers.{is_too_many, caller, with_caller}
+use Rattle.n41_script.specs.Names.{was_opened}
 use Rattle.n41_script.specs.Commands.{command_of}
 use Rattle.n41_words.specs.declared.fault.LineKind.{LineKind}
 use Rattle.n41_words.specs.declared.fault.LineKind.TheVariants as kind
@@ -62,10 +63,11 @@ with_command s word (Ok c) =
     Ok (record s { callers = with_caller s.callers word; lines = s.lines ++ record { caller = caller s.callers word; command = c } ∷ [] })
 with_command s word (Err k) = Err k
 
--- what a caller's name and the words behind it say
+-- what a caller's name and the words behind it say; a caller opens each name in one line at most
 abbrev pub after_caller : Said → Bool → List ℕ → List (List ℕ) → Result Said LineKind
 after_caller s long word words =
-    if is_too_many s.callers word then Err kind.Limit else with_command s word (command_of (is_full s) long words)
+    if is_too_many s.callers word then Err kind.Limit else
+    with_command s word (command_of (is_full s) (was_opened s.lines (caller s.callers word)) long words)
 
 -- what words say behind what was said, or their first fault
 abbrev pub after_words : Said → Bool → List (List ℕ) → Result Said LineKind

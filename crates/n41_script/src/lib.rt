@@ -4,6 +4,7 @@
 mod callers;
 mod commands;
 mod lines;
+mod opened;
 mod reading;
 mod script;
 #[cfg(test)]

@@ -2,17 +2,21 @@
 ghost use Rattle.std.specs.Prelude.{◌≡◌, ◌<◌, ◌≤◌, ◌∷◌, ◌++◌, [], length, IfOk, IfErr, IfSome, OnOk, Err, if◌then◌else◌};
 ghost use Rattle.n41_words.specs.Lines.{lines, words};
 ghost use Rattle.n41_commands.specs.Heads.{ids, owner};
+ghost use Rattle.n41_words.specs.Faults.{Gives};
 ghost use Rattle.n41_words.specs.declared.fault.LineKind.TheVariants as kind;
 ghost use Rattle.n41_script.specs.Callers.{caller_limit};
+ghost use Rattle.n41_script.specs.Commands.{command_of};
 ghost use Rattle.n41_script.specs.Faults.{Leaves, Numbers};
+ghost use Rattle.n41_script.specs.Names.{was_opened};
 ghost use Rattle.n41_script.specs.Scripts.{nothing, is_full, may_stand, with_ids, with_owner, after_head, after_caller, after_words, after_line, said_by, ids_of, owner_of, IsOf, IsScript, IsLineFault, IsFault};
 
 use crate::callers::place_of;
-use crate::commands::command_of;
+use crate::commands::{command_of, opened_name};
 use crate::lines::{is_long, readable};
+use crate::opened::Opened;
 use crate::script::{Script, ScriptLine};
 use n41_commands::{Ids, is_caller, is_kept, read_ids, read_owner};
-use n41_types::{Bytes, Name, NoMemory, Sequence};
+use n41_types::{Bytes, Command, Name, NoMemory, Sequence};
 use n41_words::{
     LineFault, LineKind, ScriptFault, has_control, is_skipped, is_word, missing, next_line,
     next_word,
@@ -61,18 +65,21 @@ struct Reading {
     owner: Option<Bytes>,
     callers: Vec<Name>,
     lines: Vec<ScriptLine>,
+    /// The names under which the lines open files.
+    opened: Opened,
 }
 
 impl Model for Reading {
     ghost use Rattle.std.specs.Prelude.{◌≤◌, length, vec_len, IfSome};
     ghost use Rattle.n41_script.specs.Callers.{caller_limit};
+    ghost use Rattle.n41_script.specs.Names.{AreOf};
     ghost use Rattle.n41_script.specs.Scripts.{Said};
 
     ghost Value = { Said };
 
     ghost view = { λ r. record { ids = r.ids; owner = r.owner; callers = r.callers.items; lines = r.lines.items } };
 
-    ghost invariant = { λ r. (vec_len r.callers ≤ caller_limit) × IfSome r.owner (λ o. length o ≤ 255) };
+    ghost invariant = { λ r. (vec_len r.callers ≤ caller_limit) × IfSome r.owner (λ o. length o ≤ 255) × AreOf r.lines.items r.opened };
 }
 
 impl Reading {
@@ -84,6 +91,7 @@ impl Reading {
             owner: None,
             callers: Vec::new(alloc),
             lines: Vec::new(alloc),
+            opened: Opened::new(alloc),
         }
     }
 
@@ -121,6 +129,33 @@ impl Reading {
         Ok(count as u32)
     }
 
+    /// The command of a caller with this number, from the words behind its name.
+    fn command_of(
+        &self,
+        alloc: Global,
+        caller: u32,
+        long: bool,
+        text: &[u8],
+    ) -> Result<Command, LineFault>
+        ensures { Gives result (command_of (is_full self.now) (was_opened self.now.lines caller) long (words text.now)) }
+    {
+        command_of(alloc, self.is_full(), &self.opened, caller, long, text)
+    }
+
+    /// Adds a command of a caller.
+    fn add_command(&mut self, caller: u32, command: Command) -> Result<(), LineFault>
+        ensures ok { OnOk result (self.new ≡ record self.old { lines = self.old.lines ++ record { caller = caller; command = command } ∷ [] }) }
+        ensures err { IfErr result (λ f. f ≡ LineFault.NoMemory) }
+    {
+        self.lines.reserve(1)?;
+        if let Some(name) = opened_name(&command) {
+            self.opened.add(caller, name.as_slice())?;
+        }
+        // There is room for it.
+        self.lines.push(ScriptLine { caller, command })?;
+        Ok(())
+    }
+
     /// Reads the command of a caller, from the words behind it.
     fn take_command(
         &mut self,
@@ -132,9 +167,8 @@ impl Reading {
         ensures { Leaves result self.new (after_caller self.old long word.now (words text.now)) }
     {
         let caller = self.number_of(alloc, word)?;
-        let command = command_of(alloc, self.is_full(), long, text)?;
-        self.lines.push(ScriptLine { caller, command })?;
-        Ok(())
+        let command = self.command_of(alloc, caller, long, text)?;
+        self.add_command(caller, command)
     }
 
     /// Reads who the client's requests are of.

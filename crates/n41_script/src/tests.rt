@@ -103,6 +103,10 @@ fn commands_that_are_built_are_read(rt: HostRuntime) {
         b"a pause 0\na pause 600\n".as_slice(),
         b"a mkdir /a\na remove /a/b\n".as_slice(),
         b"a rename /a /b/c".as_slice(),
+        b"a create f /a\nb create f /a\na new g /a/b".as_slice(),
+        b"a open f / r\na open g /a w\na open h /a rw".as_slice(),
+        b"a read f 0 1\na read f 18446744073709551615 65536".as_slice(),
+        b"a write f 0 00\na truncate f 0\na close f\na close f".as_slice(),
     ] {
         assert!(rt; is_read(alloc, text));
     }
@@ -110,7 +114,7 @@ fn commands_that_are_built_are_read(rt: HostRuntime) {
 
 #[test]
 fn lines_are_refused(rt: HostRuntime) {
-    let cases: [(&[u8], u64, LineKind); 32] = [
+    let cases: [(&[u8], u64, LineKind); 30] = [
         (b"\t", 1, LineKind::Byte),
         (b"\n\na\x7f", 3, LineKind::Byte),
         (b"a \x1fstat /", 1, LineKind::Byte),
@@ -123,11 +127,9 @@ fn lines_are_refused(rt: HostRuntime) {
         (b"plan on 1 OPEN break", 1, LineKind::Plan),
         (b"a stat /\n\na", 3, LineKind::Command),
         (b"a creat \x01", 1, LineKind::Command),
-        (b"a create f /a", 1, LineKind::Command),
-        (b"a new f /a", 1, LineKind::Command),
-        (b"a open f /a r", 1, LineKind::Command),
-        (b"a read f 0 1", 1, LineKind::Command),
-        (b"a close f", 1, LineKind::Command),
+        (b"a lock f r 0 eof", 1, LineKind::Command),
+        (b"a unlock f 0 eof", 1, LineKind::Command),
+        (b"a testlock f w 0 1", 1, LineKind::Command),
         (b"a list", 1, LineKind::Words),
         (b"a list / /", 1, LineKind::Words),
         (b"a list a", 1, LineKind::Path),
@@ -146,6 +148,77 @@ fn lines_are_refused(rt: HostRuntime) {
     ];
     for (text, line, kind) in cases {
         assert_eq!(rt; fault_of(rt.alloc(), text), Some((line, kind)));
+    }
+}
+
+#[test]
+fn files_are_refused(rt: HostRuntime) {
+    let cases: [(&[u8], LineKind); 32] = [
+        (b"a create", LineKind::Words),
+        (b"a create f\x7f /a", LineKind::Byte),
+        (b"a create F /a", LineKind::Name),
+        (b"a create user /a", LineKind::Name),
+        (b"a create abcdefghijklmnopq /a", LineKind::Name),
+        (b"a create f", LineKind::Words),
+        (b"a create f a", LineKind::Path),
+        (b"a create f /", LineKind::Path),
+        (b"a create f /a b", LineKind::Words),
+        (b"a new f /", LineKind::Path),
+        (b"a new - /a", LineKind::Name),
+        (b"a open f-g / r", LineKind::Name),
+        (b"a open f /", LineKind::Words),
+        (b"a open f / x", LineKind::Command),
+        (b"a open f / r w", LineKind::Words),
+        (b"a read F 0 0", LineKind::Name),
+        (b"a read f 0", LineKind::Words),
+        (b"a read f 0 0", LineKind::Number),
+        (b"a read f 0 65537", LineKind::Number),
+        (b"a read f 0 01", LineKind::Number),
+        (b"a read f 00 1", LineKind::Number),
+        (b"a read f 18446744073709551616 1", LineKind::Number),
+        (b"a write f 0", LineKind::Words),
+        (b"a write f x 00", LineKind::Number),
+        (b"a write f 0 000", LineKind::Hex),
+        (b"a write f 0 0g", LineKind::Hex),
+        (b"a truncate f", LineKind::Words),
+        (b"a truncate f -1", LineKind::Number),
+        (b"a truncate plan 0", LineKind::Name),
+        (b"a close", LineKind::Words),
+        (b"a close owner", LineKind::Name),
+        (b"a close f g", LineKind::Words),
+    ];
+    for (text, kind) in cases {
+        assert_eq!(rt; fault_of(rt.alloc(), text), Some((1, kind)));
+    }
+}
+
+#[test]
+fn a_caller_opens_a_name_once(rt: HostRuntime) {
+    let cases: [(&[u8], Option<(u64, LineKind)>); 9] = [
+        (b"a create f /x\na new f /x", Some((2, LineKind::Twice))),
+        (
+            b"a create f /x\na open f /y//z r",
+            Some((2, LineKind::Twice)),
+        ),
+        (
+            b"a open f / r\na close f\n\na open f",
+            Some((4, LineKind::Twice)),
+        ),
+        (
+            b"a create f /x\nb new f /y\nb create f",
+            Some((3, LineKind::Twice)),
+        ),
+        (b"a create f /x\na open F /y r", Some((2, LineKind::Name))),
+        (
+            b"a create f /x\na open f\x01 /y r",
+            Some((2, LineKind::Byte)),
+        ),
+        (b"a create f /x\na open", Some((2, LineKind::Words))),
+        (b"a close f\na open f / r\na open ff / r", None),
+        (b"a create f /x\nb open f /x r\naa new f /x", None),
+    ];
+    for (text, want) in cases {
+        assert_eq!(rt; fault_of(rt.alloc(), text), want);
     }
 }
 
@@ -208,7 +281,7 @@ fn an_owner_has_255_bytes(rt: HostRuntime) -> Result<(), NoMemory> {
 
 #[test]
 fn long_lines_are_refused(rt: HostRuntime) -> Result<(), NoMemory> {
-    let cases: [(Filled<'_>, Option<LineKind>); 12] = [
+    let cases: [(Filled<'_>, Option<LineKind>); 15] = [
         (Filled(b"a stat /", b' ', 139_992), None),
         (Filled(b"a stat /", b' ', 139_993), Some(LineKind::Limit)),
         (Filled(b"a stat", b' ', 139_994), Some(LineKind::Words)),
@@ -221,6 +294,9 @@ fn long_lines_are_refused(rt: HostRuntime) -> Result<(), NoMemory> {
         (Filled(b"a", b' ', 140_000), Some(LineKind::Limit)),
         (Filled(b"a lis", b' ', 140_000), Some(LineKind::Command)),
         (Filled(b"#", b'x', 200_000), None),
+        (Filled(b"a write f 0 ", b'7', 131_072), None),
+        (Filled(b"a write f 0 ", b'7', 131_073), Some(LineKind::Hex)),
+        (Filled(b"a write f 0 ", b'7', 131_074), Some(LineKind::Hex)),
     ];
     for (filled, want) in cases {
         let text = text_of(rt.alloc(), filled)?;
@@ -263,5 +339,81 @@ fn callers_are_counted(rt: HostRuntime) -> Result<(), NoMemory> {
     assert!(rt; is_read(rt.alloc(), &most));
     let text = of_callers(rt.alloc(), 65)?;
     assert_eq!(rt; fault_of(rt.alloc(), &text), Some((65, LineKind::Limit)));
+    Ok(())
+}
+
+// A script of one caller, which creates and closes a file under each of so many names of four letters, the first of them `aaaa`.
+fn of_names(alloc: Global, count: u16) -> Result<Vec<u8>, NoMemory> {
+    let mut text = Vec::new(alloc);
+    for number in 0..count {
+        let [high, low] = number.to_be_bytes();
+        let name = [
+            b'a' + high / 16,
+            b'a' + high % 16,
+            b'a' + low / 16,
+            b'a' + low % 16,
+        ];
+        text.extend_from_slice(b"a create ")?;
+        text.extend_from_slice(&name)?;
+        text.extend_from_slice(b" /f\na close ")?;
+        text.extend_from_slice(&name)?;
+        text.push(b'\n')?;
+    }
+    Ok(text)
+}
+
+// The fault of the text with this line behind it.
+fn fault_with(
+    alloc: Global,
+    text: &[u8],
+    line: &[u8],
+) -> Result<Option<(u64, LineKind)>, NoMemory> {
+    let mut longer = Vec::new(alloc);
+    longer.extend_from_slice(text)?;
+    longer.extend_from_slice(line)?;
+    Ok(fault_of(alloc, &longer))
+}
+
+#[test]
+fn the_last_of_many_lines_is_refused(rt: HostRuntime) -> Result<(), NoMemory> {
+    let mut text = of_names(rt.alloc(), 49_999)?;
+    text.extend_from_slice(b"a open zz / r\n")?;
+    let cases: [(&[u8], Option<LineKind>); 15] = [
+        (b"a close aaaa", None),
+        (b"b create aaaa /f", None),
+        (b"a new zzz /f", None),
+        (b"a open aaaa /f r", Some(LineKind::Twice)),
+        (b"a new zz /f", Some(LineKind::Twice)),
+        (b"a create Z /f", Some(LineKind::Name)),
+        (b"a create z /", Some(LineKind::Path)),
+        (b"a open z / x", Some(LineKind::Command)),
+        (b"a lock z r 0 1", Some(LineKind::Command)),
+        (b"a read z 0 0", Some(LineKind::Number)),
+        (b"a read z 0 65537", Some(LineKind::Number)),
+        (b"a truncate z 00", Some(LineKind::Number)),
+        (b"a write z 0 123", Some(LineKind::Hex)),
+        (b"a write z 0", Some(LineKind::Words)),
+        (b"a close z\x7f", Some(LineKind::Byte)),
+    ];
+    for (line, want) in cases {
+        let got = fault_with(rt.alloc(), &text, line)?;
+        assert_eq!(rt; got, want.map(|kind| (100_000, kind)));
+    }
+    Ok(())
+}
+
+#[test]
+fn no_line_is_read_behind_the_last(rt: HostRuntime) -> Result<(), NoMemory> {
+    let text = of_names(rt.alloc(), 50_000)?;
+    assert!(rt; is_read(rt.alloc(), &text));
+    let cases: [(&[u8], LineKind); 3] = [
+        (b"a create aaaa /f", LineKind::Limit),
+        (b"a close F", LineKind::Limit),
+        (b"a creat", LineKind::Command),
+    ];
+    for (line, kind) in cases {
+        let got = fault_with(rt.alloc(), &text, line)?;
+        assert_eq!(rt; got, Some((100_001, kind)));
+    }
     Ok(())
 }

@@ -5,7 +5,7 @@ use Rattle.n41_tables.specs.declared.tables.Tables.TheInside.{Inside}
 use Rattle.n41_tables.specs.Sound.{IsSound}
 
 abbrev pub inside : Inside → View
-inside t = record { facts = t.facts; bare = t.bare; slots = t.slots.items; seats = t.seats.items }
+inside t = record { facts = t.facts; bare = t.bare; slots = t.slots.items; seats = t.seats.items; files = t.files }
 
 -- the tables are sound, and there is room for the slots of every session
 pub record IsReady (t : Inside) : Type 0 where

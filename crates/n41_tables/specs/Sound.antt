@@ -27,6 +27,7 @@ pub record IsCounted (f : Facts) : Type 0 where
   pub takes : f.takes ≤ f.events
   pub dials : f.dials ≤ f.events
   pub rounds : f.rounds ≤ f.events
+  pub sessions : f.sessions ≤ f.events
 
 pub record IsSound (w : View) : Type 0 where
   pub counted : IsCounted w.facts
@@ -34,3 +35,4 @@ pub record IsSound (w : View) : Type 0 where
   pub slots : IsPlaced slot_place 0 w.slots
   pub seats : IsPlaced seat_place 0 w.seats
   pub tried : IsTried w.facts.events w.seats
+  pub opened : w.files.opened ≤ w.facts.events

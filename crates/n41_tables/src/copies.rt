@@ -1,5 +1,5 @@
 ghost use Rattle.std.specs.Prelude.{◌≡◌, None, option_map, IfOk};
-ghost use Rattle.n41_tables.specs.Copies.{reached_by, names_by, listed_by};
+ghost use Rattle.n41_tables.specs.Copies.{reached_by, names_by, got_by, listed_by};
 
 use n41_journal::Event;
 use n41_model::Listed;
@@ -8,8 +8,8 @@ use n41_types::NoMemory;
 use std::alloc::Global;
 use std::marker::Model;
 
-/// A copy of an event for the tables, with what it brings of its own that takes memory: the filehandle and the names that a reply
-/// tells, and the listing that a command begins. The step of the tables takes none. Contracts see it as the event.
+/// A copy of an event for the tables, with what it brings of its own that takes memory: the filehandle, the names and the bytes that a
+/// reply tells, and the listing that a command begins. Contracts see it as the event.
 #[derive(Drop)]
 pub struct EventCopy {
     pub(crate) event: Event,
@@ -20,23 +20,25 @@ pub struct EventCopy {
 impl Model for EventCopy {
     ghost use Rattle.std.specs.Prelude.{◌≡◌, option_map};
     ghost use Rattle.n41_journal.specs.declared.events.Event.{Event};
-    ghost use Rattle.n41_tables.specs.Copies.{reached_by, names_by, listed_by};
+    ghost use Rattle.n41_tables.specs.Copies.{reached_by, names_by, got_by, listed_by};
 
     ghost Value = { Event };
 
     ghost view = { λ c. c.event };
 
-    ghost invariant = { λ c. (c.brought.reached ≡ reached_by c.event) × (option_map (λ v. v.items) c.brought.names ≡ names_by c.event) × (c.listed ≡ listed_by c.event) };
+    ghost invariant = { λ c. (c.brought.reached ≡ reached_by c.event) × (option_map (λ v. v.items) c.brought.names ≡ names_by c.event) × (c.brought.got ≡ got_by c.event) × (c.listed ≡ listed_by c.event) };
 }
 
 /// What brings nothing.
 fn nothing() -> Brought
     ensures reached { result.reached ≡ None }
     ensures names { result.names ≡ None }
+    ensures got { result.got ≡ None }
 {
     Brought {
         reached: None,
         names: None,
+        got: None,
     }
 }
 
@@ -44,6 +46,7 @@ fn nothing() -> Brought
 fn brought_by(alloc: Global, event: &Event) -> Result<Brought, NoMemory>
     ensures reached { IfOk result (λ b. b.reached ≡ reached_by event.now) }
     ensures names { IfOk result (λ b. option_map (λ v. v.items) b.names ≡ names_by event.now) }
+    ensures got { IfOk result (λ b. b.got ≡ got_by event.now) }
 {
     match event {
         Event::Took { reply, .. } => Brought::of(alloc, &reply.body),
@@ -79,6 +82,7 @@ impl EventCopy {
     pub fn plain(event: Event) -> EventCopy
         requires reached { reached_by event ≡ None }
         requires names { names_by event ≡ None }
+        requires got { got_by event ≡ None }
         requires listed { listed_by event ≡ None }
         ensures { result ≡ event }
     {

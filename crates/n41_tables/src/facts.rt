@@ -1,10 +1,11 @@
-ghost use Rattle.std.specs.Prelude.{◌≡◌, ◌+◌, ◌<◌, ◌^◌, Bool, None, [], option_copied, if◌then◌else◌};
+ghost use Rattle.std.specs.Prelude.{◌≡◌, ◌+◌, ◌<◌, ◌^◌, Bool, None, Some, [], suc, is_some, ◌||◌, option_copied, if◌then◌else◌};
 ghost use Rattle.n41_model.specs.Requests.{is_bare, is_bare_use};
 ghost use Rattle.n41_calls.specs.Answers.{breaks};
+ghost use Rattle.n41_calls.specs.Files.{Files as FilesValue};
 ghost use Rattle.n41_view.specs.Step.{put_put_off, put_put_offs, took_put_off, took_put_offs, put_facts, took_facts, ended_round, dialed_facts, broke_facts, counted};
 
 use n41_model::Phase;
-use n41_results::Reply;
+use n41_results::{Reply, SessionMade};
 use n41_said::{
     Said, bound_after, breaks, broke_phase, client_after, completed_after, completed_by,
     dialed_phase, is_out, is_step_of, is_step_said, place_or, puts_off, reply_phase, session_after,
@@ -70,7 +71,7 @@ pub(crate) fn put_facts(
     request: &Request,
 )
     requires { facts.old.puts + 1 < 2 ^ 64 }
-    ensures { facts.new ≡ put_facts (record { facts = facts.old; bare = option_copied bare.entry; slots = slots.now; seats = [] }) request.now facts.old }
+    ensures { (g : FilesValue) → facts.new ≡ put_facts (record { facts = facts.old; bare = option_copied bare.entry; slots = slots.now; seats = []; files = g }) request.now facts.old }
 {
     if !is_out(bare, slots, request.xid) {
         facts.last_xid = request.xid;
@@ -83,22 +84,34 @@ pub(crate) fn put_facts(
     facts.put_off = put_put_offs(&request.plan, facts.put_off);
 }
 
-/// The place of a reply, where it is a breach.
-fn breach_place(said: &Said, place: u64) -> Option<u64>
-    ensures { result ≡ (if breaks said.now.slot said.now.bare then Some place else None) }
+/// The place of a reply, where it is a breach, or misleads.
+fn breach_place(said: &Said, misleads: bool, place: u64) -> Option<u64>
+    ensures { result ≡ (if breaks said.now.slot said.now.bare || misleads then Some place else None) }
 {
-    if breaks(said.slot, said.bare) {
+    if breaks(said.slot, said.bare) || misleads {
         Some(place)
     } else {
         None
     }
 }
 
-/// A reply is taken.
-pub(crate) fn took_facts(facts: &mut Facts, said: &Said, reply: &Reply)
+/// How many sessions were made, once this one was.
+fn sessions_after(made: Option<SessionMade>, sessions: u64) -> u64
+    requires { sessions + 1 < 2 ^ 64 }
+    ensures { result ≡ (if is_some made then suc sessions else sessions) }
+{
+    match made {
+        None => sessions,
+        Some(_) => sessions + 1,
+    }
+}
+
+/// A reply is taken, which maybe misleads.
+pub(crate) fn took_facts(facts: &mut Facts, said: &Said, misleads: bool, reply: &Reply)
     requires takes { facts.old.takes + 1 < 2 ^ 64 }
+    requires sessions { facts.old.sessions + 1 < 2 ^ 64 }
     requires events { facts.old.events + 1 < 2 ^ 64 }
-    ensures { facts.new ≡ took_facts said.now reply.now facts.old }
+    ensures { facts.new ≡ took_facts said.now misleads reply.now facts.old }
 {
     let made = said.made();
     let phase = reply_phase(said, facts.phase, facts.work);
@@ -114,11 +127,15 @@ pub(crate) fn took_facts(facts: &mut Facts, said: &Said, reply: &Reply)
     facts.phase = phase;
     facts.work = worked(phase, facts.work);
     facts.session = session_after(said.bare, facts.session);
+    facts.sessions = sessions_after(made, facts.sessions);
     facts.client = client_after(said.bare, facts.client);
     facts.slots = slots_after(made, facts.slots);
     facts.target = target_after(made, &reply.body, facts.target);
     facts.put_off = took_put_offs(facts.moment, said, facts.put_off);
-    facts.breach_at = place_or(facts.breach_at, breach_place(said, facts.events + 1));
+    facts.breach_at = place_or(
+        facts.breach_at,
+        breach_place(said, misleads, facts.events + 1),
+    );
 }
 
 /// A round ends.
@@ -160,10 +177,11 @@ pub(crate) fn broke_facts(facts: &mut Facts)
     facts.phase = phase;
 }
 
-/// One more event happened.
-pub(crate) fn counted(facts: &mut Facts)
+/// One more event happened, which maybe brought a reply to a request of a caller.
+pub(crate) fn counted(facts: &mut Facts, told: Option<u32>)
     requires { facts.old.events + 1 < 2 ^ 64 }
-    ensures { facts.new ≡ counted facts.old }
+    ensures { facts.new ≡ counted told facts.old }
 {
+    facts.told = told;
     facts.events += 1;
 }

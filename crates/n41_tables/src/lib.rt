@@ -3,6 +3,7 @@
 
 mod copies;
 mod facts;
+mod names;
 mod seats;
 mod slots;
 mod tables;

@@ -29,25 +29,32 @@ pub(crate) fn took_bare(reply: &Reply, bare: &mut Option<Request>)
 }
 
 /// A new request on a slot.
-fn fresh_held(moment: u64, request: Request, owner: Option<u32>) -> Held
-    ensures { result ≡ put_held moment request owner None }
+fn fresh_held(moment: u64, place: u64, request: Request, owner: Option<u32>) -> Held
+    ensures { result ≡ put_held moment place request owner None }
 {
     Held {
         request,
         retried: false,
         sent: Sent::Waits,
         put_at: moment,
+        begun: place,
         doubt: false,
         owner,
     }
 }
 
 /// A request is put where this one was: the same goes again, and else it is a new one.
-fn put_held(moment: u64, request: Request, owner: Option<u32>, held: Option<Held>) -> Held
-    ensures { result ≡ put_held moment request owner held }
+fn put_held(
+    moment: u64,
+    place: u64,
+    request: Request,
+    owner: Option<u32>,
+    held: Option<Held>,
+) -> Held
+    ensures { result ≡ put_held moment place request owner held }
 {
     match held {
-        None => fresh_held(moment, request, owner),
+        None => fresh_held(moment, place, request, owner),
         Some(mut held) => {
             if held.request.xid == request.xid {
                 held.retried = true;
@@ -55,7 +62,7 @@ fn put_held(moment: u64, request: Request, owner: Option<u32>, held: Option<Held
                 held.put_at = moment;
                 held
             } else {
-                fresh_held(moment, request, owner)
+                fresh_held(moment, place, request, owner)
             }
         }
     }
@@ -72,12 +79,12 @@ fn turn_of(request: &Request) -> u32
 }
 
 /// A request is put on its slot, which is this one.
-fn put_slot(moment: u64, request: Request, owner: Option<u32>, slot: &mut Slot)
+fn put_slot(moment: u64, place: u64, request: Request, owner: Option<u32>, slot: &mut Slot)
     requires { is_on request slot.old.number ≡ true }
-    ensures { slot.new ≡ put_slot moment request owner slot.old }
+    ensures { slot.new ≡ put_slot moment place request owner slot.old }
 {
     slot.used = turn_of(&request);
-    slot.held = Some(put_held(moment, request, owner, slot.held.take()));
+    slot.held = Some(put_held(moment, place, request, owner, slot.held.take()));
 }
 
 /// The place of the request's slot, if it is among so many.
@@ -91,22 +98,23 @@ fn place_of(request: &Request, count: usize) -> Option<usize>
 }
 
 /// A request is put on the slot that it is for, if there is one.
-fn put_slots(moment: u64, request: Request, owner: Option<u32>, slots: &mut [Slot])
+fn put_slots(moment: u64, place: u64, request: Request, owner: Option<u32>, slots: &mut [Slot])
     requires { IsPlaced slot_place 0 slots.old }
-    ensures { slots.new ≡ map (put_slot moment request owner) slots.old }
+    ensures { slots.new ≡ map (put_slot moment place request owner) slots.old }
 {
     match place_of(&request, slots.len()) {
         None => drop(request),
-        Some(place) => {
-            let slot = &mut slots[place];
-            put_slot(moment, request, owner, slot);
+        Some(number) => {
+            let slot = &mut slots[number];
+            put_slot(moment, place, request, owner, slot);
         }
     }
 }
 
-/// A request is put: where it has no slot it is alone, and else it is on its slot.
+/// A request is put, by the event at this place: where it has no slot it is alone, and else it is on its slot.
 pub(crate) fn put_request(
     moment: u64,
+    place: u64,
     request: Request,
     owner: Option<u32>,
     bare: &mut Option<Request>,
@@ -114,12 +122,12 @@ pub(crate) fn put_request(
 )
     requires { IsPlaced slot_place 0 slots.old }
     ensures bare { bare.new ≡ put_bare request bare.old }
-    ensures slots { slots.new ≡ map (put_slot moment request owner) slots.old }
+    ensures slots { slots.new ≡ map (put_slot moment place request owner) slots.old }
 {
     if is_bare(&request) {
         put_bare(request, bare);
     } else {
-        put_slots(moment, request, owner, slots);
+        put_slots(moment, place, request, owner, slots);
     }
 }
 
