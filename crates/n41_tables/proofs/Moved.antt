@@ -1,5 +1,5 @@
 -- Tables whose parts are those of the step are the step, and ready for the next.
-use Rattle.std.proofs.Common.{◌≡◌, ℕ, ◌+◌, ◌<◌, ◌≤◌, List, [], map, length, Option, None, vec_capacity, refl, sym, ◌∙◌, ap, subst, add-one, arith}
+use Rattle.std.proofs.Common.{◌≡◌, ℕ, suc, ◌+◌, ◌<◌, ◌≤◌, Bool, List, [], map, length, Option, None, is_none, slice_get, vec_capacity, refl, sym, ◌∙◌, ap, subst, add-one, arith}
 use Rattle.std.specs.declared.vec.Vec.{Vec}
 use Rattle.std.specs.Vec.{with_items}
 use Rattle.std.proofs.lemmas.List.{length-map, with_items_is}
@@ -16,17 +16,19 @@ use Rattle.n41_view.specs.View.{View, view}
 use Rattle.n41_view.specs.declared.tables.Facts.{Facts}
 use Rattle.n41_view.specs.declared.tables.Seat.{Seat}
 use Rattle.n41_view.specs.declared.tables.Slot.{Slot}
-use Rattle.n41_view.specs.Step.{step, counted, put_facts, took_facts, dialed_facts, broke_facts, put_bare, took_bare, put_slot, took_slot, dialed_slot, broke_slot, slots_made, began_seat, put_seat, took_seat, answered_seat, new_owner, held_with, Said, said_of}
+use Rattle.n41_view.specs.Step.{step, counted, put_facts, took_facts, dialed_facts, broke_facts, put_bare, took_bare, put_slot, took_slot, dialed_slot, broke_slot, slots_made, began_seat, put_seat, took_seat, answered_seat, new_owner, held_with, Said, said_of, seat_began, seat_answered, told_by}
 use Rattle.n41_tables.specs.declared.tables.Tables.TheInside.{Inside}
 use Rattle.n41_tables.specs.Sound.{IsSound, IsTried}
 use Rattle.n41_tables.specs.Inside.{inside, IsReady}
+use Rattle.n41_calls.specs.Files.{Files, files_or}
+use Rattle.n41_tables.specs.Scenes.{setting}
 use Rattle.n41_tables.proofs.Soundness.{sound_new, sound_step, tried_more}
 
-abbrev pub tables_of : Facts → Option Request → List Slot → List Seat → View
-tables_of f b s q = record { facts = f; bare = b; slots = s; seats = q }
+abbrev pub tables_of : Facts → Option Request → List Slot → List Seat → Files → View
+tables_of f b s q g = record { facts = f; bare = b; slots = s; seats = q; files = g }
 
-pub parts : (f : Facts) (b : Option Request) (s : List Slot) (q : List Seat) (w : View) → f ≡ w.facts → b ≡ w.bare → s ≡ w.slots → q ≡ w.seats → tables_of f b s q ≡ w
-parts f b s q w h i j k = rw (h, i, j, k) refl
+pub parts : (f : Facts) (b : Option Request) (s : List Slot) (q : List Seat) (g : Files) (w : View) → f ≡ w.facts → b ≡ w.bare → s ≡ w.slots → q ≡ w.seats → g ≡ w.files → tables_of f b s q g ≡ w
+parts f b s q g w h i j k l = rw (h, i, j, k, l) refl
 
 pub ready : (t u : Inside) (e : Event) → IsReady t → inside u ≡ step (inside t) e → 64 ≤ vec_capacity u.slots → IsReady u
 ready t u e r h l = let P : View → Type 0 = IsSound in record { sound = subst P (sym h) (sound_step (inside t) e r.sound); room = l }
@@ -44,41 +46,51 @@ tried_room t w xs h r l e =
     let n : t.facts.events ≡ w.facts.events = ap (λ (v : View). v.facts.events) h in
     rw e (tried_more t.facts.events 18446744073709551614 t.seats.items (omega arith) r.sound.tried)
 
-pub began_moved : (t : Inside) (f : Facts) (q : List Seat) (d n : ℕ) (k : Command) (m : ℕ) → f ≡ counted t.facts → q ≡ map (began_seat d n k m (t.facts.events + 1)) t.seats.items → tables_of f t.bare t.slots.items q ≡ step (inside t) (Began d n k m)
-began_moved t f q d n k m hf hq =
-    parts f t.bare t.slots.items q (step (inside t) (Began d n k m)) hf refl refl
-    (hq ∙ ap (λ (i : ℕ). map (began_seat d n k m i) t.seats.items) (add-one t.facts.events))
+pub began_moved : (t : Inside) (f : Facts) (q : List Seat) (g : Files) (d n : ℕ) (k : Command) (m : ℕ) → f ≡ counted None t.facts → q ≡ map (began_seat d n k m (t.facts.events + 1)) t.seats.items → g ≡ seat_began k t.files (slice_get t.seats.items d) → tables_of f t.bare t.slots.items q g ≡ step (inside t) (Began d n k m)
+began_moved t f q g d n k m hf hq hg =
+    parts f t.bare t.slots.items q g (step (inside t) (Began d n k m)) hf refl refl
+    (hq ∙ ap (λ (i : ℕ). map (began_seat d n k m i) t.seats.items) (add-one t.facts.events)) hg
 
-pub answered_moved : (t : Inside) (f : Facts) (q : List Seat) (d n : ℕ) (a : Answer) → f ≡ counted t.facts → q ≡ map (answered_seat d) t.seats.items → tables_of f t.bare t.slots.items q ≡ step (inside t) (Answered d n a)
-answered_moved t f q d n a hf hq = parts f t.bare t.slots.items q (step (inside t) (Answered d n a)) hf refl refl hq
+pub answered_moved : (t : Inside) (f : Facts) (q : List Seat) (g : Files) (d n : ℕ) (a : Answer) → f ≡ counted None t.facts → q ≡ map (answered_seat d a) t.seats.items → g ≡ seat_answered a t.files (slice_get t.seats.items d) → tables_of f t.bare t.slots.items q g ≡ step (inside t) (Answered d n a)
+answered_moved t f q g d n a hf hq hg = parts f t.bare t.slots.items q g (step (inside t) (Answered d n a)) hf refl refl hq hg
 
-pub dialed_moved : (t : Inside) (f g : Facts) (s : List Slot) (c : ℕ) → g ≡ dialed_facts c t.facts → f ≡ counted g → s ≡ map dialed_slot t.slots.items → tables_of f t.bare s t.seats.items ≡ step (inside t) (Dialed c)
-dialed_moved t f g s c hg hf hs = parts f t.bare s t.seats.items (step (inside t) (Dialed c)) (hf ∙ ap (λ (h : Facts). counted h) hg) refl hs refl
+pub dialed_moved : (t : Inside) (f g : Facts) (s : List Slot) (c : ℕ) → g ≡ dialed_facts c t.facts → f ≡ counted None g → s ≡ map dialed_slot t.slots.items → tables_of f t.bare s t.seats.items t.files ≡ step (inside t) (Dialed c)
+dialed_moved t f g s c hg hf hs = parts f t.bare s t.seats.items t.files (step (inside t) (Dialed c)) (hf ∙ ap (λ (h : Facts). counted None h) hg) refl hs refl refl
 
-pub broke_moved : (t : Inside) (f g : Facts) (s : List Slot) → g ≡ broke_facts t.facts → f ≡ counted g → s ≡ map broke_slot t.slots.items → tables_of f t.bare s t.seats.items ≡ step (inside t) (Broke 0 cause.Ended)
-broke_moved t f g s hg hf hs = parts f t.bare s t.seats.items (step (inside t) (Broke 0 cause.Ended)) (hf ∙ ap (λ (h : Facts). counted h) hg) refl hs refl
+pub broke_moved : (t : Inside) (f g : Facts) (s : List Slot) → g ≡ broke_facts t.facts → f ≡ counted None g → s ≡ map broke_slot t.slots.items → tables_of f t.bare s t.seats.items t.files ≡ step (inside t) (Broke 0 cause.Ended)
+broke_moved t f g s hg hf hs = parts f t.bare s t.seats.items t.files (step (inside t) (Broke 0 cause.Ended)) (hf ∙ ap (λ (h : Facts). counted None h) hg) refl hs refl refl
 
-pub owner_is : (t : Inside) (r : Request) (o : Option ℕ) (xs : List Slot) (ys : List Seat) → xs ≡ t.slots.items → ys ≡ t.seats.items → o ≡ new_owner (tables_of t.facts None xs ys) r → o ≡ new_owner (inside t) r
-owner_is t r o xs ys hx hy ho = ho ∙ (ap (λ (zs : List Slot). new_owner (tables_of t.facts None zs ys) r) hx ∙ ap (λ (zs : List Seat). new_owner (tables_of t.facts None t.slots.items zs) r) hy)
+pub owner_is : (t : Inside) (r : Request) (o : Option ℕ) (xs : List Slot) (ys : List Seat) → xs ≡ t.slots.items → ys ≡ t.seats.items → ((b : Option Request) → o ≡ new_owner (tables_of t.facts b xs ys t.files) r) → o ≡ new_owner (inside t) r
+owner_is t r o xs ys hx hy ho = ho t.bare ∙ (ap (λ (zs : List Slot). new_owner (tables_of t.facts t.bare zs ys t.files) r) hx ∙ ap (λ (zs : List Seat). new_owner (tables_of t.facts t.bare t.slots.items zs t.files) r) hy)
 
-pub put_facts_is : (t : Inside) (r : Request) (g : Facts) (b : Option Request) (xs : List Slot) → b ≡ t.bare → xs ≡ t.slots.items → g ≡ put_facts (tables_of t.facts b xs []) r t.facts → g ≡ put_facts (inside t) r t.facts
-put_facts_is t r g b xs hb hx hg = hg ∙ (ap (λ (z : Option Request). put_facts (tables_of t.facts z xs []) r t.facts) hb ∙ ap (λ (zs : List Slot). put_facts (tables_of t.facts t.bare zs []) r t.facts) hx)
+pub put_facts_is : (t : Inside) (r : Request) (g : Facts) (b : Option Request) (xs : List Slot) → b ≡ t.bare → xs ≡ t.slots.items → ((h : Files) → g ≡ put_facts (tables_of t.facts b xs [] h) r t.facts) → g ≡ put_facts (inside t) r t.facts
+put_facts_is t r g b xs hb hx hg = hg t.files ∙ (ap (λ (z : Option Request). put_facts (tables_of t.facts z xs [] t.files) r t.facts) hb ∙ ap (λ (zs : List Slot). put_facts (tables_of t.facts t.bare zs [] t.files) r t.facts) hx)
 
-pub put_moved : (t : Inside) (f g : Facts) (b : Option Request) (s : List Slot) (q : List Seat) (r : Request) (o : Option ℕ) → o ≡ new_owner (inside t) r → g ≡ put_facts (inside t) r t.facts → f ≡ counted g → b ≡ put_bare r t.bare → s ≡ map (put_slot t.facts.moment r o) t.slots.items → q ≡ map (put_seat o) t.seats.items → tables_of f b s q ≡ step (inside t) (Put 0 0 r)
+pub put_moved : (t : Inside) (f g : Facts) (b : Option Request) (s : List Slot) (q : List Seat) (r : Request) (o : Option ℕ) → o ≡ new_owner (inside t) r → g ≡ put_facts (inside t) r t.facts → f ≡ counted None g → b ≡ put_bare r t.bare → s ≡ map (put_slot t.facts.moment (t.facts.events + 1) r o) t.slots.items → q ≡ map (put_seat o) t.seats.items → tables_of f b s q t.files ≡ step (inside t) (Put 0 0 r)
 put_moved t f g b s q r o ho hg hf hb hs hq =
-    parts f b s q (step (inside t) (Put 0 0 r))
-    (hf ∙ ap (λ (h : Facts). counted h) hg)
+    parts f b s q t.files (step (inside t) (Put 0 0 r))
+    (hf ∙ ap (λ (h : Facts). counted None h) hg)
     hb
-    (hs ∙ ap (λ (p : Option ℕ). map (put_slot t.facts.moment r p) t.slots.items) ho)
+    (hs ∙ (ap (λ (i : ℕ). map (put_slot t.facts.moment i r o) t.slots.items) (add-one t.facts.events) ∙ ap (λ (p : Option ℕ). map (put_slot t.facts.moment (suc t.facts.events) r p) t.slots.items) ho))
     (hq ∙ ap (λ (p : Option ℕ). map (put_seat p) t.seats.items) ho)
+    refl
 
 pub said_is : (t : Inside) (y : Reply) (a : Said) (b : Option Request) (xs : List Slot) → b ≡ t.bare → xs ≡ t.slots.items → a ≡ said_of b (held_with xs y.xid) y → a ≡ said_of t.bare (held_with t.slots.items y.xid) y
 said_is t y a b xs hb hx ha = ha ∙ (ap (λ (z : Option Request). said_of z (held_with xs y.xid) y) hb ∙ ap (λ (zs : List Slot). said_of t.bare (held_with zs y.xid) y) hx)
 
-pub took_moved : (t : Inside) (f g : Facts) (b : Option Request) (s us : List Slot) (q : List Seat) (y : Reply) (a : Said) (o : Option SessionMade) → a ≡ said_of t.bare (held_with t.slots.items y.xid) y → o ≡ session_in a.bare → g ≡ took_facts a y t.facts → f ≡ counted g → b ≡ took_bare y t.bare → us ≡ map (took_slot t.facts.moment y) t.slots.items → s ≡ slots_made o us → q ≡ map (took_seat t.facts.moment a y) t.seats.items → tables_of f b s q ≡ step (inside t) (Took 0 0 y)
-took_moved t f g b s us q y a o ha ho hg hf hb hu hs hq =
-    parts f b s q (step (inside t) (Took 0 0 y))
-    (hf ∙ (ap (λ (h : Facts). counted h) hg ∙ ap (λ (z : Said). counted (took_facts z y t.facts)) ha))
+-- what a reply is taken by: without the request that has no slot
+abbrev pub setting_of : Inside → View
+setting_of t = setting t.facts t.slots.items t.seats.items t.files
+
+told_same : (t : Inside) (a : Said) (y : Reply) (o : Option ℕ) → told_by (setting_of t) a y o ≡ told_by (inside t) a y o
+told_same t a y None = refl
+told_same t a y (Some c) = refl
+
+pub took_moved : (t : Inside) (f g : Facts) (b : Option Request) (s us : List Slot) (q : List Seat) (h : Files) (y : Reply) (a : Said) (o : Option SessionMade) (m : Bool) → a ≡ said_of t.bare (held_with t.slots.items y.xid) y → o ≡ session_in a.bare → m ≡ is_none (told_by (setting_of t) a y a.owner) → g ≡ took_facts a m y t.facts → f ≡ counted a.owner g → b ≡ took_bare y t.bare → us ≡ map (took_slot t.facts.moment y) t.slots.items → s ≡ slots_made o us → q ≡ map (took_seat (setting_of t) a y) t.seats.items → h ≡ files_or t.files (told_by (setting_of t) a y a.owner) → (c p : ℕ) → tables_of f b s q h ≡ step (inside t) (Took c p y)
+took_moved t f g b s us q h y a o m ha ho hm hg hf hb hu hs hq hh c p =
+    parts f b s q h (step (inside t) (Took c p y))
+    (hf ∙ (ap (λ (k : Facts). counted a.owner k) (hg ∙ ap (λ (n : Bool). took_facts a n y t.facts) (hm ∙ ap (λ (x : Option Files). is_none x) (told_same t a y a.owner))) ∙ ap (λ (z : Said). counted z.owner (took_facts z (is_none (told_by (inside t) z y z.owner)) y t.facts)) ha))
     hb
     (hs ∙ (ap (λ (zs : List Slot). slots_made o zs) hu ∙ ap (λ (z : Option SessionMade). slots_made z (map (took_slot t.facts.moment y) t.slots.items)) (ho ∙ ap (λ (z : Said). session_in z.bare) ha)))
-    (hq ∙ ap (λ (z : Said). map (took_seat t.facts.moment z y) t.seats.items) ha)
+    (hq ∙ ap (λ (z : Said). map (took_seat (inside t) z y) t.seats.items) ha)
+    (hh ∙ (ap (λ (x : Option Files). files_or t.files x) (told_same t a y a.owner) ∙ ap (λ (z : Said). files_or t.files (told_by (inside t) z y z.owner)) ha))

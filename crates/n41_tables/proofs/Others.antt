@@ -8,10 +8,11 @@ use Rattle.n41_types.specs.declared.plans.Request.{Request}
 use Rattle.n41_types.specs.declared.plans.SlotUse.{SlotUse}
 use Rattle.n41_results.specs.declared.replies.Reply.{Reply}
 use Rattle.n41_model.specs.Requests.{is_on, is_use_of, is_bare, is_bare_use}
-use Rattle.n41_calls.specs.Calls.{is_caller, fresh_call, way_of, put_call, took_call, answered_call}
+use Rattle.n41_calls.specs.Calls.{is_caller, fresh_call, put_call, took_call, answered_call}
 use Rattle.n41_view.specs.declared.tables.Seat.{Seat}
 use Rattle.n41_view.specs.declared.tables.Slot.{Slot}
-use Rattle.n41_view.specs.Step.{put_slot, began_seat, put_seat, took_seat, answered_seat, with_call, call_of, Said}
+use Rattle.n41_view.specs.Step.{put_slot, began_seat, put_seat, took_seat, answered_seat, with_call, call_of, Said, seat_hour}
+use Rattle.n41_view.specs.View.{View}
 use Rattle.n41_chosen.proofs.Choices.{then_of, else_of}
 use Rattle.n41_tables.specs.Earned.{earned_at}
 use Rattle.n41_tables.specs.Sound.{IsPlaced, slot_place, seat_place}
@@ -20,8 +21,8 @@ use Rattle.n41_tables.proofs.Places.{place_at, step_nothing, step_off, step_past
 began_other : (d n : ℕ) (k : Command) (m at : ℕ) (s : Seat) → seat_place s ≢ d → began_seat d n k m at s ≡ s
 began_other d n k m at s h = else_of (d == s.caller) _ s (ne_eqb d s.caller (λ e. h (sym e)))
 
-answered_other : (d : ℕ) (s : Seat) → seat_place s ≢ d → answered_seat d s ≡ s
-answered_other d s h = else_of (d == s.caller) _ s (ne_eqb d s.caller (λ e. h (sym e)))
+answered_other : (d : ℕ) (a : Answer) (s : Seat) → seat_place s ≢ d → answered_seat d a s ≡ s
+answered_other d a s h = else_of (d == s.caller) _ s (ne_eqb d s.caller (λ e. h (sym e)))
 
 not_caller : (o : Option ℕ) (d c : ℕ) → o ≡ Some d → c ≢ d → is_caller o c ≡ false
 not_caller o d c e h = rw e (ne_eqb d c (λ g. h (sym g)))
@@ -29,15 +30,15 @@ not_caller o d c e h = rw e (ne_eqb d c (λ g. h (sym g)))
 put_other : (o : Option ℕ) (d : ℕ) (s : Seat) → o ≡ Some d → seat_place s ≢ d → put_seat o s ≡ s
 put_other o d s e h = else_of (is_caller o s.caller) _ s (not_caller o d s.caller e h)
 
-took_other : (m : ℕ) (a : Said) (y : Reply) (d : ℕ) (s : Seat) → a.owner ≡ Some d → seat_place s ≢ d → took_seat m a y s ≡ s
+took_other : (m : View) (a : Said) (y : Reply) (d : ℕ) (s : Seat) → a.owner ≡ Some d → seat_place s ≢ d → took_seat m a y s ≡ s
 took_other m a y d s e h = else_of (is_caller a.owner s.caller) _ s (not_caller a.owner d s.caller e h)
 
 not_on : (o : Option SlotUse) (i n : ℕ) → is_use_of o i ≡ true → n ≢ i → is_use_of o n ≡ false
 not_on None i n e h = refl
 not_on (Some u) i n e h = let q : u.slot ≡ i = eqb-true u.slot i e in ne_eqb u.slot n (λ g. h (sym g ∙ q))
 
-slot_other : (m : ℕ) (r : Request) (o : Option ℕ) (i : ℕ) (s : Slot) → is_on r i ≡ true → slot_place s ≢ i → put_slot m r o s ≡ s
-slot_other m r o i s e h = else_of (is_on r s.number) _ s (not_on r.slot i s.number e h)
+slot_other : (m at : ℕ) (r : Request) (o : Option ℕ) (i : ℕ) (s : Slot) → is_on r i ≡ true → slot_place s ≢ i → put_slot m at r o s ≡ s
+slot_other m at r o i s e h = else_of (is_on r s.number) _ s (not_on r.slot i s.number e h)
 
 -- ---- whole lists
 
@@ -48,7 +49,7 @@ is_there : (o : Option ℕ) (d : ℕ) (ss : List Seat) (x : Seat) → o ≡ Some
 is_there o d ss x e p l = rw e (same_place d ss x p l)
 
 abbrev pub began : ℕ → Command → ℕ → ℕ → Seat → Seat
-began n k m at s = with_call (record s { command = Some k; number = n; began_at = at; began_on = m }) (fresh_call (way_of k))
+began n k m at s = with_call (record s { command = Some k; number = n; began_at = at; began_on = m }) (fresh_call k (call_of s))
 
 pub began_there : (d n : ℕ) (k : Command) (m at : ℕ) (ss : List Seat) (x t : Seat) → IsPlaced seat_place 0 ss → d < length ss → t ≡ began n k m at (get_or ss d x) → set ss d t ≡ map (began_seat d n k m at) ss
 began_there d n k m at ss x t p l e =
@@ -59,17 +60,17 @@ began_there d n k m at ss x t p l e =
 pub began_past : (d n : ℕ) (k : Command) (m at : ℕ) (ss : List Seat) → IsPlaced seat_place 0 ss → length ss ≤ d → map (began_seat d n k m at) ss ≡ ss
 began_past d n k m at ss p l = step_past (began_seat d n k m at) seat_place 0 d ss p (began_other d n k m at) (omega arith)
 
-abbrev pub answered : Seat → Seat
-answered s = with_call (record s { command = None }) (answered_call (call_of s))
+abbrev pub answered : Answer → Seat → Seat
+answered a s = with_call (record s { command = None }) (answered_call s.command a (call_of s))
 
-pub answered_there : (d : ℕ) (ss : List Seat) (x t : Seat) → IsPlaced seat_place 0 ss → d < length ss → t ≡ answered (get_or ss d x) → set ss d t ≡ map (answered_seat d) ss
-answered_there d ss x t p l e =
-    let g = then_of (d == (get_or ss d x).caller) (answered (get_or ss d x)) (get_or ss d x) (same_place d ss x p l) in
-    let h = step_there (answered_seat d) seat_place 0 d d ss x p (answered_other d) (omega arith) l in
+pub answered_there : (d : ℕ) (a : Answer) (ss : List Seat) (x t : Seat) → IsPlaced seat_place 0 ss → d < length ss → t ≡ answered a (get_or ss d x) → set ss d t ≡ map (answered_seat d a) ss
+answered_there d a ss x t p l e =
+    let g = then_of (d == (get_or ss d x).caller) (answered a (get_or ss d x)) (get_or ss d x) (same_place d ss x p l) in
+    let h = step_there (answered_seat d a) seat_place 0 d d ss x p (answered_other d a) (omega arith) l in
     ap (λ (s : Seat). set ss d s) (e ∙ sym g) ∙ h
 
-pub answered_past : (d : ℕ) (ss : List Seat) → IsPlaced seat_place 0 ss → length ss ≤ d → map (answered_seat d) ss ≡ ss
-answered_past d ss p l = step_past (answered_seat d) seat_place 0 d ss p (answered_other d) (omega arith)
+pub answered_past : (d : ℕ) (a : Answer) (ss : List Seat) → IsPlaced seat_place 0 ss → length ss ≤ d → map (answered_seat d a) ss ≡ ss
+answered_past d a ss p l = step_past (answered_seat d a) seat_place 0 d ss p (answered_other d a) (omega arith)
 
 -- the answer that a seat gives up
 pub earned_there : (d : ℕ) (ss : List Seat) (x : Seat) (a : Option Answer) → d < length ss → a ≡ (get_or ss d x).earned → a ≡ earned_at (slice_get ss d)
@@ -90,33 +91,33 @@ put_past o d ss g p l = step_past (put_seat o) seat_place 0 d ss p (λ s. put_ot
 pub put_nowhere : (o : Option ℕ) (ss : List Seat) → o ≡ None → map (put_seat o) ss ≡ ss
 put_nowhere o ss g = step_nothing (put_seat o) ss (λ s. else_of (is_caller o s.caller) _ s (rw g refl))
 
-pub took_there : (m : ℕ) (a : Said) (y : Reply) (d : ℕ) (ss : List Seat) (x t : Seat) → a.owner ≡ Some d → IsPlaced seat_place 0 ss → d < length ss → t ≡ with_call (get_or ss d x) (took_call m (get_or ss d x).command a.plan a.slot y (call_of (get_or ss d x))) → set ss d t ≡ map (took_seat m a y) ss
+pub took_there : (m : View) (a : Said) (y : Reply) (d : ℕ) (ss : List Seat) (x t : Seat) → a.owner ≡ Some d → IsPlaced seat_place 0 ss → d < length ss → t ≡ with_call (get_or ss d x) (took_call (seat_hour m (get_or ss d x)) (get_or ss d x).command a.plan a.slot y (call_of (get_or ss d x))) → set ss d t ≡ map (took_seat m a y) ss
 took_there m a y d ss x t q p l e =
-    let g = then_of (is_caller a.owner (get_or ss d x).caller) (with_call (get_or ss d x) (took_call m (get_or ss d x).command a.plan a.slot y (call_of (get_or ss d x)))) (get_or ss d x) (is_there a.owner d ss x q p l) in
+    let g = then_of (is_caller a.owner (get_or ss d x).caller) (with_call (get_or ss d x) (took_call (seat_hour m (get_or ss d x)) (get_or ss d x).command a.plan a.slot y (call_of (get_or ss d x)))) (get_or ss d x) (is_there a.owner d ss x q p l) in
     let h = step_there (took_seat m a y) seat_place 0 d d ss x p (λ s. took_other m a y d s q) (omega arith) l in
     ap (λ (s : Seat). set ss d s) (e ∙ sym g) ∙ h
 
-pub took_past : (m : ℕ) (a : Said) (y : Reply) (d : ℕ) (ss : List Seat) → a.owner ≡ Some d → IsPlaced seat_place 0 ss → length ss ≤ d → map (took_seat m a y) ss ≡ ss
+pub took_past : (m : View) (a : Said) (y : Reply) (d : ℕ) (ss : List Seat) → a.owner ≡ Some d → IsPlaced seat_place 0 ss → length ss ≤ d → map (took_seat m a y) ss ≡ ss
 took_past m a y d ss g p l = step_past (took_seat m a y) seat_place 0 d ss p (λ s. took_other m a y d s g) (omega arith)
 
-pub took_nowhere : (m : ℕ) (a : Said) (y : Reply) (ss : List Seat) → a.owner ≡ None → map (took_seat m a y) ss ≡ ss
+pub took_nowhere : (m : View) (a : Said) (y : Reply) (ss : List Seat) → a.owner ≡ None → map (took_seat m a y) ss ≡ ss
 took_nowhere m a y ss g = step_nothing (took_seat m a y) ss (λ s. else_of (is_caller a.owner s.caller) _ s (rw g refl))
 
-pub slot_there : (m : ℕ) (r : Request) (o : Option ℕ) (i : ℕ) (ss : List Slot) (x t : Slot) → is_on r i ≡ true → IsPlaced slot_place 0 ss → i < length ss → t ≡ put_slot m r o (get_or ss i x) → set ss i t ≡ map (put_slot m r o) ss
-slot_there m r o i ss x t g p l e =
-    let h = step_there (put_slot m r o) slot_place 0 i i ss x p (λ s. slot_other m r o i s g) (omega arith) l in
+pub slot_there : (m at : ℕ) (r : Request) (o : Option ℕ) (i : ℕ) (ss : List Slot) (x t : Slot) → is_on r i ≡ true → IsPlaced slot_place 0 ss → i < length ss → t ≡ put_slot m at r o (get_or ss i x) → set ss i t ≡ map (put_slot m at r o) ss
+slot_there m at r o i ss x t g p l e =
+    let h = step_there (put_slot m at r o) slot_place 0 i i ss x p (λ s. slot_other m at r o i s g) (omega arith) l in
     rw e h
 
 pub slot_on : (r : Request) (i : ℕ) (ss : List Slot) (x : Slot) → is_on r i ≡ true → IsPlaced slot_place 0 ss → i < length ss → is_on r (get_or ss i x).number ≡ true
 slot_on r i ss x g p l = let e : (get_or ss i x).number ≡ i = place_at slot_place 0 i ss x p l ∙ zero-add i in ap (λ (n : ℕ). is_on r n) e ∙ g
 
-pub slot_nowhere : (m : ℕ) (r : Request) (o : Option ℕ) (ss : List Slot) → IsPlaced slot_place 0 ss → ((i : ℕ) → i < length ss → is_on r i ≡ false) → map (put_slot m r o) ss ≡ ss
-slot_nowhere m r o ss p h = step_off (put_slot m r o) slot_place 0 ss p (λ s g l. else_of (is_on r s.number) _ s (h s.number (omega arith)))
+pub slot_nowhere : (m at : ℕ) (r : Request) (o : Option ℕ) (ss : List Slot) → IsPlaced slot_place 0 ss → ((i : ℕ) → i < length ss → is_on r i ≡ false) → map (put_slot m at r o) ss ≡ ss
+slot_nowhere m at r o ss p h = step_off (put_slot m at r o) slot_place 0 ss p (λ s g l. else_of (is_on r s.number) _ s (h s.number (omega arith)))
 
 not_bare : (o : Option SlotUse) (n : ℕ) → is_bare_use o ≡ true → is_use_of o n ≡ false
 not_bare None n e = refl
 not_bare (Some u) n e = absurd (cc)
 
 -- a request without a slot changes no slot
-pub slot_bare : (m : ℕ) (r : Request) (o : Option ℕ) (ss : List Slot) → is_bare r ≡ true → map (put_slot m r o) ss ≡ ss
-slot_bare m r o ss e = step_nothing (put_slot m r o) ss (λ s. else_of (is_on r s.number) _ s (not_bare r.slot s.number e))
+pub slot_bare : (m at : ℕ) (r : Request) (o : Option ℕ) (ss : List Slot) → is_bare r ≡ true → map (put_slot m at r o) ss ≡ ss
+slot_bare m at r o ss e = step_nothing (put_slot m at r o) ss (λ s. else_of (is_on r s.number) _ s (not_bare r.slot s.number e))

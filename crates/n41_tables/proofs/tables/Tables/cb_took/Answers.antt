@@ -8,11 +8,11 @@ use Rattle.n41_tables.proofs.tables.Tables.cb_took.Goals as goal
 
 pub invariant_of-self : goal.invariant_of-self
 invariant_of-self c =
-    ready c.self.inside (record { facts = c.counted.new.facts; bare = c.self.inside.bare; slots = c.self.inside.slots; seats = c.self.inside.seats }) (CbTook 0 0 c.args.call) c.self.invariant
-    (parts c.counted.new.facts c.self.inside.bare c.self.inside.slots.items c.self.inside.seats.items (step (inside c.self.inside) (CbTook 0 0 c.args.call)) (c.counted.ensures ∙ ap (λ (n : ℕ). counted (record c.self.inside.facts { takes = n })) (add-one c.self.inside.facts.takes)) refl refl refl)
+    ready c.self.inside (record { facts = c.counted.new.facts; bare = c.self.inside.bare; slots = c.self.inside.slots; seats = c.self.inside.seats; files = c.self.inside.files }) (CbTook 0 0 c.args.call) c.self.invariant
+    (parts c.counted.new.facts c.self.inside.bare c.self.inside.slots.items c.self.inside.seats.items c.self.inside.files (step (inside c.self.inside) (CbTook 0 0 c.args.call)) (c.counted.ensures ∙ ap (λ (n : ℕ). counted (record c.self.inside.facts { takes = n })) (add-one c.self.inside.facts.takes)) refl refl refl refl)
     c.self.invariant.room
 
 pub returns : goal.returns
 returns c =
-    parts c.counted.new.facts c.self.inside.bare c.self.inside.slots.items c.self.inside.seats.items (step (inside c.self.inside) (CbTook 0 0 c.args.call)) (c.counted.ensures ∙ ap (λ (n : ℕ). counted (record c.self.inside.facts { takes = n })) (add-one c.self.inside.facts.takes)) refl refl refl
+    parts c.counted.new.facts c.self.inside.bare c.self.inside.slots.items c.self.inside.seats.items c.self.inside.files (step (inside c.self.inside) (CbTook 0 0 c.args.call)) (c.counted.ensures ∙ ap (λ (n : ℕ). counted (record c.self.inside.facts { takes = n })) (add-one c.self.inside.facts.takes)) refl refl refl refl
     ∙ ap (λ (w : View). step w (CbTook 0 0 c.args.call)) c.self.view_is
