@@ -32,12 +32,12 @@ then_equal Less b e = absurd (cc)
 then_equal Equal b e = (refl, e)
 then_equal Greater b e = absurd (cc)
 
-is_equal : (c : Ordering) → is_eq c ≡ true → c ≡ Equal
+pub is_equal : (c : Ordering) → is_eq c ≡ true → c ≡ Equal
 is_equal Less e = absurd (cc)
 is_equal Equal e = refl
 is_equal Greater e = absurd (cc)
 
-key_exact : (j k : RecordKey) → key_cmp j k ≡ Equal → j ≡ k
+pub key_exact : (j k : RecordKey) → key_cmp j k ≡ Equal → j ≡ k
 key_exact j k e =
     let p = then_equal _ _ e in
     ap (λ (o : List ℕ). record { owner = o; fh = j.fh }) (exact_bytes j.owner k.owner p.0)
@@ -229,7 +229,7 @@ counts_are hs rs n v h = record { counted = λ q k. v.counted q k ∙ h q k; som
 pub tallied_of : (hs : List (ℕ × Open)) (rs : List (RecordId × Record)) → IsCounted hs rs → Tallied rs (count hs)
 tallied_of hs rs i = record { counted = i.counted; some = i.some }
 
-weight_is : (q : RecordId) (k : Mode) (o : Open) → weight q k o ≡ part o.id o.mode q k
+pub weight_is : (q : RecordId) (k : Mode) (o : Open) → weight q k o ≡ part o.id o.mode q k
 weight_is q k o = ap (λ (b : Bool). one (b && is_mode k o.mode)) (laws.symm q o.id)
 
 pub gone_count : (hs : List (ℕ × Open)) (h : ℕ) (o : Open) (q : RecordId) (k : Mode) → lookup (is_number h) hs ≡ Some o → count hs q k - part o.id o.mode q k ≡ count (without hs h) q k

@@ -1,9 +1,10 @@
 -- Lists of entries: what is put in, taken out, and seen through a function of the values.
-use Rattle.std.proofs.Common.{◌≡◌, Bool, true, false, cond, List, [], ◌∷◌, map, filter, None, Some, option_map, refl, sym, ◌∙◌, ap}
+use Rattle.std.proofs.Common.{◌≡◌, Bool, true, false, cond, List, [], ◌∷◌, map, filter, None, Some, Result, Ok, Err, IfOk, option_map, refl, sym, ◌∙◌, ap}
 use Rattle.std.specs.declared.cmp.Ordering.{Ordering}
 use Rattle.std.specs.declared.cmp.Ordering.TheVariants.{Less, Equal, Greater}
 use Rattle.std.specs.Ordering.{is_eq}
 use Rattle.std.specs.Cmp.{IsTotalOrder, eq_by_cmp_equiv}
+use Rattle.std.specs.Result.{MatchResult}
 use Rattle.std.specs.Map.{lookup, remove_entry, set_value, keys_of}
 use Rattle.std.specs.BTreeMap.{insert_entry}
 use Rattle.std.specs.List.Sorted.{IsStrictlySortedBy}
@@ -114,3 +115,9 @@ drop_by p t e es n ih false h = rw h (ap (λ fs. cond (p e.0) (e ∷ fs) fs) ih)
 pub drop_one : {K X : Type 0} (p t : K → Bool) (es : List (K × X)) → ((q : K) → t q ≡ true → p q ≡ false) → filter (λ d. p d.0) (remove_entry t es) ≡ filter (λ d. p d.0) es
 drop_one p t [] n = refl
 drop_one p t (e ∷ es) n = drop_by p t e es n (drop_one p t es n) (t e.0) refl
+
+-- ---- what is said of a value that came
+
+pub ok_as : {A E : Type 0} {P Q : A → Type 0} (F : E → Type 0) (r : Result A E) → MatchResult r P F → ((x : A) → P x → Q x) → IfOk r Q
+ok_as F (Ok x) m h = h x m
+ok_as F (Err e) m h = tt

@@ -1,5 +1,5 @@
 -- What is inside the opens, and what contracts see of them.
-use Rattle.std.specs.Prelude.{◌≡◌, ℕ, ◌+◌, ◌-◌, ◌<◌, ◌≤◌, ◌^◌, nat_lt, Bool, true, false, ◌&&◌, List, map, Option, None, Some, IsSome, Result, Ok, Err, if◌then◌else◌, sum_by, ⊤}
+use Rattle.std.specs.Prelude.{◌≡◌, ℕ, ◌+◌, ◌-◌, ◌<◌, ◌≤◌, ◌^◌, nat_lt, Bool, true, false, ◌&&◌, List, map, [], ◌∷◌, ◌||◌, Option, None, Some, IsSome, Result, Ok, Err, if◌then◌else◌, sum_by, ⊤}
 use Rattle.std.specs.Map.{lookup, keys_of, values_of, remove_entry, set_value}
 use Rattle.std.specs.BTreeMap.{insert_entry}
 use Rattle.std.specs.List.Sorted.{IsStrictlySortedBy}
@@ -15,7 +15,7 @@ use Rattle.n41_opens.specs.declared.modes.Tally.{Tally}
 use Rattle.n41_opens.specs.declared.records.Record.{Record}
 use Rattle.n41_opens.specs.declared.opens.Opens.TheInside.{Inside}
 use Rattle.n41_opens.specs.Ids.{id_cmp, is_id}
-use Rattle.n41_opens.specs.Opens.{Told, Table, is_change, untold, heard}
+use Rattle.n41_opens.specs.Opens.{Told, Table, has, is_change, untold, told_to, heard}
 
 -- ---- how many handles a record has in each mode
 
@@ -147,6 +147,38 @@ discarded_by rs r (Some u) = rs
 -- the records without this one, where it has no handle
 abbrev pub discarded : List (RecordId × Record) → RecordId → List (RecordId × Record)
 discarded rs r = discarded_by rs r (union_of (tally_in rs r))
+
+-- ---- handles that move all at once
+
+-- all changes of a record are told up to a seqid; it counts one handle more, so that it stays while handles leave
+pub record Places (rs : List (RecordId × Record)) (r : RecordId) (s : ℕ) (ss : List (RecordId × Record)) : Type 0 where
+  pub placed : (c : Record) × (told_in c ≡ told_to s) × (c.tally ≡ more Read (tally_in rs r)) × (ss ≡ insert_entry id_cmp rs r c) × ((q : RecordId) → lookup (is_id q) ss ≡ (if is_id r q then Some c else lookup (is_id q) rs))
+  pub ordered : IsStrictlySortedBy id_cmp (keys_of ss)
+
+abbrev pub entered_by : List (RecordId × Record) → RecordId → Mode → Option Record → List (RecordId × Record)
+entered_by rs r m None = rs
+entered_by rs r m (Some c) = set_value (is_id r) rs (record c { tally = more m c.tally })
+
+-- the records once one more handle has one of them in a mode
+abbrev pub entered : List (RecordId × Record) → RecordId → Mode → List (RecordId × Record)
+entered rs r m = entered_by rs r m (lookup (is_id r) rs)
+
+-- the same of all these handles, and the records once all these have left theirs
+abbrev pub all_entered : List (RecordId × Record) → List (ℕ × Open) → List (RecordId × Record)
+all_entered rs [] = rs
+all_entered rs (e ∷ es) = all_entered (entered rs e.1.id e.1.mode) es
+
+abbrev pub all_left : List (RecordId × Record) → List (ℕ × Open) → List (RecordId × Record)
+all_left rs [] = rs
+all_left rs (e ∷ es) = all_left (left rs e.1.id e.1.mode) es
+
+-- each record can count so many handles more
+abbrev pub HasRoom : List (RecordId × Record) → ℕ → Type 0
+HasRoom rs n = (r : RecordId) (m : Mode) → amount m (tally_in rs r) + n < 2 ^ 64
+
+-- each of these handles has this record, or one that one of those has
+abbrev pub AreFrom : List (ℕ × Open) → List (ℕ × Open) → RecordId → Type 0
+AreFrom gs hs r = (q : RecordId) → has gs q ≡ true → (is_id r q || has hs q) ≡ true
 
 -- ---- what the calls on records give
 

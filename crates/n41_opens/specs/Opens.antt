@@ -119,9 +119,12 @@ forgotten t h = with_handles (without t.handles h) t.records
 abbrev pub moved : RecordId → Open → Open
 moved r o = if is_key r.key o.id.key then record o { id = r } else o
 
+abbrev pub all_moved : RecordId → List (ℕ × Open) → List (ℕ × Open)
+all_moved r hs = map (λ e. (e.0, moved r e.1)) hs
+
 -- all handles of a key have this record of it, all whose changes are told up to a seqid
 abbrev pub refreshed : Table → RecordId → ℕ → Table
-refreshed t r s = with_handles (map (λ e. (e.0, moved r e.1)) t.handles) (telling t.records r (told_to s))
+refreshed t r s = with_handles (all_moved r t.handles) (telling t.records r (told_to s))
 
 -- these handles have this record, all whose changes are told up to a seqid
 abbrev pub reclaimed : Table → RecordId → ℕ → List (ℕ × Mode) → Table

@@ -1,4 +1,4 @@
-ghost use Rattle.std.specs.Prelude.{◌≡◌, Some, refl};
+ghost use Rattle.std.specs.Prelude.{◌≡◌, Some, IfOk, refl};
 ghost use Rattle.std.specs.Ordering.{is_eq};
 ghost use Rattle.std.specs.Cmp.{eq_by_cmp_equiv, partial_equiv_from_equiv, partial_order_from_total};
 ghost use Rattle.n41_opens.specs.Ids.{key_cmp, id_cmp, is_key, is_id, key_total, id_total};
@@ -19,6 +19,18 @@ pub struct RecordKey {
 pub struct RecordId {
     pub key: RecordKey,
     pub other: [u8; 12],
+}
+
+impl RecordId {
+    /// The record that has this "other" under a key.
+    pub(crate) fn of(key: &RecordKey, other: [u8; 12]) -> Result<RecordId, AllocError>
+        ensures { IfOk result (λ r. r ≡ record { key = key.now; other = other }) }
+    {
+        Ok(RecordId {
+            key: key.clone()?,
+            other,
+        })
+    }
 }
 
 impl Clone for RecordKey {

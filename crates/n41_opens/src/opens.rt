@@ -1,21 +1,19 @@
-ghost use Rattle.std.specs.Prelude.{◌≡◌, ◌≢◌, ◌<◌, ◌^◌, [], length, None, true, false, IfOk, IfErr, OnOk, OnErr, is_some, option_map, option_copied, unwrap_or};
+ghost use Rattle.std.specs.Prelude.{◌≡◌, ◌≢◌, [], None, true, false, IfOk, OnOk, OnErr, is_some, option_map, option_copied, unwrap_or};
 ghost use Rattle.std.specs.Bool.{Decides};
-ghost use Rattle.std.specs.Ordering.{nat_cmp};
-ghost use Rattle.std.specs.Map.{keys_of};
-ghost use Rattle.std.specs.List.Sorted.{IsStrictlySortedBy};
-ghost use Rattle.n41_opens.specs.Opens.{Table, AttachGives, changed_in, applied_in, need_beside, open_of, seated, is_marked, forgotten, with_mark, shrink_by, shrink_in, stateid_at, entry_after, told_row};
+ghost use Rattle.n41_opens.specs.Opens.{Table, AttachGives, changed_in, applied_in, need_beside, open_of, is_marked, forgotten, with_mark, shrink_by, shrink_in, stateid_at, entry_after, told_row, has_key, with_handles, telling, told_to, refreshed, reclaimed};
+ghost use Rattle.n41_opens.specs.Inside.{AreFrom};
 
+use crate::handles::{Handles, all_moved, all_seated, has_key, is_marked, seat};
 use crate::modes::{is_less, joined};
-use crate::records::{Records, change, discard, join, leave, needs, ready, stateid_in};
+use crate::records::{
+    Records, change, discard, enter_all, join, leave, leave_all, needs, place, ready, stateid_in,
+};
 use crate::{AttachFault, Open, RecordId, RecordKey, Shrink};
 use n41_types::{Mode, NoMemory, Stateid};
-use std::alloc::{AllocError, Global};
+use std::alloc::Global;
 use std::collections::BTreeMap;
 use std::marker::Model;
 use std::ops::Bound;
-
-/// The handles by their numbers.
-type Handles = BTreeMap<u64, Open>;
 
 /// The open records of a client. Contracts see its handles by rising number, and the records that they have with what is told of each.
 #[derive(Drop)]
@@ -48,39 +46,6 @@ fn shrink_by(others: Option<Mode>, mode: Mode, stateid: Stateid) -> Shrink
         Shrink::Downgrade(need, stateid)
     } else {
         Shrink::Keep
-    }
-}
-
-/// Whether the close of a handle began.
-fn is_marked(handles: &Handles, handle: u64) -> bool
-    ensures { result ≡ is_marked (open_of handles.now.entries handle) }
-{
-    let Some(held) = handles.get(&handle) else {
-        return false;
-    };
-    held.closing
-}
-
-/// A handle has a record in a mode; what it had before.
-fn seat(
-    handles: &mut Handles,
-    handle: u64,
-    id: RecordId,
-    mode: Mode,
-) -> Result<Option<Open>, NoMemory>
-    ensures old { IfOk result (λ o. o ≡ open_of handles.old.entries handle) }
-    ensures ok { OnOk result (handles.new.entries ≡ seated handles.old.entries handle id mode) }
-    ensures err { OnErr result (handles.new.entries ≡ handles.old.entries) }
-    ensures ordered { IsStrictlySortedBy nat_cmp (keys_of handles.old.entries) }
-    ensures few { length handles.old.entries < 2 ^ 63 }
-{
-    let count = handles.len();
-    prove!(count < usize::MAX);
-    let closing = is_marked(handles, handle);
-    let held = Open { id, mode, closing };
-    match handles.insert(handle, held) {
-        Ok(old) => Ok(old),
-        Err(_failed) => Err(AllocError),
     }
 }
 
@@ -122,6 +87,58 @@ impl Opens {
         };
         leave(&mut self.records, &old.id, old.mode);
         Ok(())
+    }
+
+    /// These are the handles from now on, each with a record that a handle had or with this one, all whose changes are told up to a seqid. For
+    /// want of memory nothing changes.
+    fn settle(&mut self, id: &RecordId, seqid: u32, next: Handles) -> Result<(), NoMemory>
+        requires seqid { seqid ≢ 0 }
+        requires from { AreFrom next.entries self.old.handles id.now }
+        ensures ok { OnOk result (self.new ≡ with_handles next.entries (telling self.old.records id.now (told_to seqid))) }
+        ensures err { OnErr result (self.new ≡ self.old) }
+    {
+        let had = self.handles.len();
+        let has = next.len();
+        prove!(had < usize::MAX);
+        prove!(has < usize::MAX);
+        place(self.alloc, &mut self.records, id, seqid)?;
+        enter_all(&mut self.records, &next);
+        leave_all(&mut self.records, &self.handles);
+        leave(&mut self.records, id, Mode::Read);
+        self.handles = next;
+        Ok(())
+    }
+
+    /// The opens of a key were settled after the server lost them: all its handles have the record of this stateid, all whose changes are told up
+    /// to its seqid (RFC 8881, section 8.4.2.1). False exactly where the key has none.
+    pub fn refresh(&mut self, rec: &RecordKey, s: Stateid) -> Result<bool, NoMemory>
+        requires { s.seqid ≢ 0 }
+        ensures value { IfOk result (λ b. b ≡ has_key self.old.handles rec.now) }
+        ensures table { OnOk result (self.new ≡ refreshed self.old (record { key = rec.now; other = s.other }) s.seqid) }
+        ensures err { OnErr result (self.new ≡ self.old) }
+    {
+        let some = has_key(&self.handles, rec);
+        let id = RecordId::of(rec, s.other)?;
+        let next = all_moved(&self.handles, &id)?;
+        self.settle(&id, s.seqid, next)?;
+        Ok(some)
+    }
+
+    /// These handles were reclaimed: the record of this stateid has them, and they leave those that they had; all its changes are told up to the
+    /// stateid's seqid (RFC 8881, section 8.4.2.1).
+    pub fn reclaimed(
+        &mut self,
+        rec: &RecordKey,
+        s: Stateid,
+        handles: &[(u64, Mode)],
+    ) -> Result<(), NoMemory>
+        requires { s.seqid ≢ 0 }
+        ensures ok { OnOk result (self.new ≡ reclaimed self.old (record { key = rec.now; other = s.other }) s.seqid handles.now) }
+        ensures err { OnErr result (self.new ≡ self.old) }
+    {
+        let id = RecordId::of(rec, s.other)?;
+        let next = all_seated(&self.handles, &id, handles)?;
+        self.settle(&id, s.seqid, next)
     }
 
     /// What the other handles of a handle's record need, taken together. None where there are none, or the handle is not there.

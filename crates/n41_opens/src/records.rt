@@ -1,11 +1,13 @@
-ghost use Rattle.std.specs.Prelude.{◌≡◌, ◌≢◌, ◌+◌, ◌<◌, ◌≤◌, ◌^◌, None, true, false, IfOk, IfErr, OnOk, OnErr, IsSome, IfSome};
+ghost use Rattle.std.specs.Prelude.{◌≡◌, ◌≢◌, ◌+◌, ◌<◌, ◌≤◌, ◌^◌, length, None, true, false, IfOk, IfErr, OnOk, OnErr, IsSome, IfSome};
 ghost use Rattle.std.specs.Map.{lookup, keys_of};
 ghost use Rattle.std.specs.List.Sorted.{IsStrictlySortedBy};
+ghost use Rattle.n41_types.specs.declared.spans.Mode.TheVariants.{Read};
 ghost use Rattle.n41_seqid.specs.Fronts.{is_new};
 ghost use Rattle.n41_opens.specs.Ids.{id_cmp, is_id};
 ghost use Rattle.n41_opens.specs.Opens.{is_change, untold, heard, told_to, seqid_of};
-ghost use Rattle.n41_opens.specs.Inside.{Readies, Joins, Changes, CanJoin, ReadyGives, WidenGives, HearGives, TellGives, nothing, amount, fewer, union_of, told_in, told_by, tally_in, left, discarded};
+ghost use Rattle.n41_opens.specs.Inside.{Readies, Joins, Changes, CanJoin, ReadyGives, WidenGives, HearGives, TellGives, Places, HasRoom, nothing, amount, more, fewer, union_of, told_in, told_by, tally_in, left, discarded, entered, all_entered, all_left};
 
+use crate::handles::Handles;
 use crate::modes::Tally;
 use crate::{AttachFault, Open, RecordId};
 use n41_seqid::{Front, newer};
@@ -36,6 +38,31 @@ impl Record {
             begun: false,
             tally: Tally::nothing(),
         })
+    }
+
+    /// A record of which all changes are told up to a seqid, and which counts one handle.
+    fn told_to(alloc: Global, seqid: u32) -> Result<Record, AllocError>
+        requires { seqid ≢ 0 }
+        ensures told { IfOk result (λ c. told_in c ≡ told_to seqid) }
+        ensures tally { IfOk result (λ c. c.tally ≡ more Read nothing) }
+    {
+        Ok(Record {
+            front: Front::new(alloc, seqid, 0)?,
+            begun: true,
+            tally: Tally::nothing().more(Mode::Read),
+        })
+    }
+
+    /// All changes are told up to a seqid, and one handle more is counted.
+    fn hold(&mut self, seqid: u32)
+        requires seqid { seqid ≢ 0 }
+        requires room { amount Read self.old.tally + 1 < 2 ^ 64 }
+        ensures told { told_in self.new ≡ told_to seqid }
+        ensures tally { self.new.tally ≡ more Read self.old.tally }
+    {
+        self.front.reset(seqid);
+        self.begun = true;
+        self.tally = self.tally.more(Mode::Read);
     }
 
     /// A change is told by its seqid, in the room that was made.
@@ -126,6 +153,77 @@ pub(crate) fn leave(records: &mut Records, id: &RecordId, mode: Mode)
     record.tally = record.tally.fewer(mode);
     if record.tally.union().is_none() {
         drop(records.remove(id));
+    }
+}
+
+/// Adds a record of which all changes are told up to a seqid, and which counts one handle.
+fn add_told(
+    alloc: Global,
+    records: &mut Records,
+    id: &RecordId,
+    seqid: u32,
+) -> Result<(), AllocError>
+    requires seqid { seqid ≢ 0 }
+    requires absent { lookup (is_id id.now) records.old.entries ≡ None }
+    ensures ok { OnOk result (Places records.old.entries id.now seqid records.new.entries) }
+    ensures err { OnErr result (records.new.entries ≡ records.old.entries) }
+{
+    let own = id.clone()?;
+    let record = Record::told_to(alloc, seqid)?;
+    if records.insert(own, record).is_err() {
+        return Err(AllocError);
+    }
+    Ok(())
+}
+
+/// All changes of a record are told up to a seqid, and it counts one handle more, in Read, so that it stays while handles leave. It is added
+/// where it is not there.
+pub(crate) fn place(
+    alloc: Global,
+    records: &mut Records,
+    id: &RecordId,
+    seqid: u32,
+) -> Result<(), AllocError>
+    requires seqid { seqid ≢ 0 }
+    requires room { HasRoom records.old.entries 1 }
+    ensures ok { OnOk result (Places records.old.entries id.now seqid records.new.entries) }
+    ensures err { OnErr result (records.new.entries ≡ records.old.entries) }
+{
+    match records.get_mut(id) {
+        Some(record) => {
+            record.hold(seqid);
+            Ok(())
+        }
+        None => add_told(alloc, records, id, seqid),
+    }
+}
+
+/// One more handle has a record in this mode.
+fn enter(records: &mut Records, id: &RecordId, mode: Mode)
+    requires { HasRoom records.old.entries 1 }
+    ensures { records.new.entries ≡ entered records.old.entries id.now mode }
+{
+    if let Some(record) = records.get_mut(id) {
+        record.tally = record.tally.more(mode);
+    }
+}
+
+/// These handles have their records beside those that have them.
+pub(crate) fn enter_all(records: &mut Records, handles: &Handles)
+    requires { HasRoom records.old.entries (length handles.now.entries) }
+    ensures { records.new.entries ≡ all_entered records.old.entries handles.now.entries }
+{
+    for (_number, held) in handles {
+        enter(records, &held.id, held.mode);
+    }
+}
+
+/// These handles leave their records.
+pub(crate) fn leave_all(records: &mut Records, handles: &Handles)
+    ensures { records.new.entries ≡ all_left records.old.entries handles.now.entries }
+{
+    for (_number, held) in handles {
+        leave(records, &held.id, held.mode);
     }
 }
 

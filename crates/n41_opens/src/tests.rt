@@ -11,10 +11,15 @@ fn stateid(other: u8, seqid: u32) -> Stateid
     Stateid { seqid, other }
 }
 
-fn key(alloc: Global) -> Result<RecordKey, NoMemory> {
+/// The key of the file with this letter.
+fn key_of(alloc: Global, letter: u8) -> Result<RecordKey, NoMemory> {
     let owner = Owner::new(Bytes::copy_from_slice(alloc, b"o")?);
-    let fh = Fh::new(Bytes::copy_from_slice(alloc, b"/a")?);
+    let fh = Fh::new(Bytes::copy_from_slice(alloc, &[letter])?);
     Ok(RecordKey { owner, fh })
+}
+
+fn key(alloc: Global) -> Result<RecordKey, NoMemory> {
+    key_of(alloc, b'a')
 }
 
 /// An open of a handle that is answered: None for want of memory, or else the seqid that was told twice, and 0 where none was.
@@ -234,4 +239,89 @@ fn handles_are_listed_and_marked(rt: HostRuntime) {
         Some(([Some(4), Some(9), None], [true, false, true, false]))
     );
     assert!(rt; opens.get(4).is_some());
+}
+
+/// Whether the opens of a file were settled; None for want of memory.
+fn refresh(opens: &mut Opens, alloc: Global, letter: u8, seqid: u32) -> Option<bool>
+    requires { seqid ≢ 0 }
+{
+    let Ok(rec) = key_of(alloc, letter) else {
+        return None;
+    };
+    opens.refresh(&rec, stateid(9, seqid)).ok()
+}
+
+/// Which of two files has handles, and what these send and are told after it was settled; they had two records, and one began to close.
+fn settled(opens: &mut Opens, alloc: Global) -> Option<([bool; 3], [Option<Shrink>; 2], [u32; 3])> {
+    let _one = attach(opens, alloc, 1, 7, 1, Mode::Read)?;
+    let _two = attach(opens, alloc, 2, 8, 1, Mode::Both)?;
+    let marked = opens.closing(2, true);
+    let none = refresh(opens, alloc, b'b', 5)?;
+    let some = refresh(opens, alloc, b'a', 5)?;
+    let sent = [opens.shrink_of(1), opens.shrink_of(2)];
+    let older = attach(opens, alloc, 3, 7, 1, Mode::Read)?;
+    let twice = attach(opens, alloc, 4, 9, 5, Mode::Read)?;
+    let next = attach(opens, alloc, 5, 9, 6, Mode::Read)?;
+    Some((
+        [none, some, marked && opens.is_closing(2)],
+        sent,
+        [older, twice, next],
+    ))
+}
+
+#[test]
+fn a_settled_file_has_one_record(rt: HostRuntime) {
+    let mut opens = Opens::new(rt.alloc());
+    let got = settled(&mut opens, rt.alloc());
+    assert_eq!(rt;
+        got,
+        Some((
+            [false, true, true],
+            [
+                Some(Shrink::Keep),
+                Some(Shrink::Downgrade(Mode::Read, stateid(9, 5)))
+            ],
+            [0, 5, 0]
+        ))
+    );
+    assert_eq!(rt; opens.stateid_of(1), Some(stateid(9, 6)));
+}
+
+/// What four handles send after three were reclaimed, of which one had another record, and one is new.
+fn reclaim(opens: &mut Opens, alloc: Global) -> Option<[Option<Shrink>; 4]> {
+    let _one = attach(opens, alloc, 1, 7, 1, Mode::Read)?;
+    let _two = attach(opens, alloc, 2, 7, 2, Mode::Both)?;
+    let _three = attach(opens, alloc, 3, 8, 1, Mode::Both)?;
+    let Ok(rec) = key(alloc) else {
+        return None;
+    };
+    let list = [(1, Mode::Read), (3, Mode::Write), (4, Mode::Read)];
+    if opens.reclaimed(&rec, stateid(9, 4), &list).is_err() {
+        return None;
+    }
+    Some([
+        opens.shrink_of(1),
+        opens.shrink_of(2),
+        opens.shrink_of(3),
+        opens.shrink_of(4),
+    ])
+}
+
+#[test]
+fn reclaimed_handles_share_a_record(rt: HostRuntime) {
+    let mut opens = Opens::new(rt.alloc());
+    let got = reclaim(&mut opens, rt.alloc());
+    assert_eq!(rt;
+        got,
+        Some([
+            Some(Shrink::Keep),
+            Some(Shrink::Close(stateid(7, 2))),
+            Some(Shrink::Downgrade(Mode::Read, stateid(9, 4))),
+            Some(Shrink::Keep)
+        ])
+    );
+    assert_eq!(rt;
+        attach(&mut opens, rt.alloc(), 5, 8, 1, Mode::Read),
+        Some(0)
+    );
 }

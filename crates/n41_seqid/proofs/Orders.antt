@@ -74,12 +74,14 @@ counts_around a b l = grind (arith, nat_tests, l)
 counts : (a b : ℕ) → b ≤ 4294967295 → Counts a b (distance b a)
 counts a b k = record {
   up = λ l. (let e = counts_up a b l in omega (arith, e));
-  around = λ l. (let e = counts_around a b l in omega (arith, e)) }
+  around = λ l. (let e = counts_around a b l in omega (arith, e));
+}
 
 -- so the test decides what is newer
 pub is_newer_decides : (a b : ℕ) → 1 ≤ a → a ≤ 4294967295 → b ≤ 4294967295 → Decides (is_newer a b) (IsNewer a b)
 is_newer_decides a b i j k =
     let c = distance b a in
-    let t = counts_tell a b c i j k (counts a b k) in
-    (λ e. (let p = and_parts (nat_le 1 c) (nat_le c 2147483647) e in t.0 (leb-true 1 c p.0, leb-true c 2147483647 p.1)),
-     λ m. (let p = t.1 m in and_from (nat_le 1 c) (nat_le c 2147483647) (le-leb 1 c p.0) (le-leb c 2147483647 p.1)))
+    let t = counts_tell a b c i j k (counts a b k) in (
+      λ e. (let p = and_parts (nat_le 1 c) (nat_le c 2147483647) e in t.0 (leb-true 1 c p.0, leb-true c 2147483647 p.1)),
+      λ m. (let p = t.1 m in and_from (nat_le 1 c) (nat_le c 2147483647) (le-leb 1 c p.0) (le-leb c 2147483647 p.1)),
+    )

@@ -140,7 +140,9 @@ impl<T: Drop> Front<T> {
         ensures room { self.old.room ≤ self.new.room }
     {
         for _turn in 0..self.waiting() {
-            drop(self.pop());
+            if self.pop().is_none() {
+                return;
+            }
         }
     }
 
