@@ -1,22 +1,10 @@
 -- What is due where a command has a next plan.
-use Rattle.std.proofs.Common.{◌≡◌, ℕ, ◌<◌, ◌≤◌, Bool, true, false, ◌&&◌, not, if◌then◌else◌, List, [], ◌∷◌, Option, Some, None, take, length, slice_get, refl, sym, ◌∙◌, ap, subst, arith}
+use Rattle.std.proofs.Common.{◌≡◌, ℕ, ◌<◌, ◌≤◌, Bool, true, false, ◌&&◌, not, Option, Some, None, slice_get, refl, ◌∙◌, ap, arith}
 use Rattle.std.specs.Prelude.{is_some, IsSome}
-use Rattle.n41_types.specs.declared.commands.Command.{Command}
-use Rattle.n41_types.specs.declared.commands.Command.TheVariants as asks
-use Rattle.n41_types.specs.declared.plans.Place.{Place}
-use Rattle.n41_types.specs.declared.plans.Place.TheVariants.{Root, At}
 use Rattle.n41_types.specs.declared.plans.Plan.{Plan}
-use Rattle.n41_types.specs.declared.plans.Plan.TheVariants as plan
 use Rattle.n41_types.specs.declared.plans.Request.{Request}
-use Rattle.n41_types.specs.declared.spans.Mode.{Mode}
 use Rattle.n41_model.specs.declared.words.Item.TheVariants.{Fresh}
-use Rattle.n41_model.specs.declared.words.Listed.{Listed}
 use Rattle.n41_model.specs.declared.words.Setup.{Setup}
-use Rattle.n41_model.specs.declared.words.Way.{Way}
-use Rattle.n41_model.specs.declared.words.Stale.{Stale}
-use Rattle.n41_opens.specs.declared.answers.Shrink.{Shrink}
-use Rattle.n41_opens.specs.declared.answers.Shrink.TheVariants.{Keep, Downgrade, Close}
-use Rattle.n41_calls.specs.Walks.{Seen, Sight, ahead, close_after, create, goal, is_keep, last_of, list, list_size, make_dir, next_plan, opening, read, read_most, refresh, remove, rename, resize, shrinks, walk_most, walk_or, write, write_most}
 use Rattle.n41_calls.specs.Due.{only_if, with_plan, is_running}
 use Rattle.n41_view.specs.declared.tables.Seat.{Seat}
 use Rattle.n41_view.specs.Due.{finishing_in, begins_seat, new_on, due_item}

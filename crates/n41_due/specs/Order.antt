@@ -1,5 +1,5 @@
 -- Which of the requests that are due goes first (own).
-use Rattle.std.specs.Prelude.{◌≡◌, ℕ, ◌==◌, Bool, true, false, ◌&&◌, ◌||◌, List, Option, Some, None, nat_lt, is_some, slice_get}
+use Rattle.std.specs.Prelude.{◌≡◌, ℕ, ◌==◌, Bool, true, false, ◌&&◌, ◌||◌, List, Option, Some, None, nat_lt, slice_get}
 use Rattle.n41_types.specs.declared.plans.Request.{Request}
 use Rattle.n41_model.specs.declared.words.Item.{Item}
 use Rattle.n41_model.specs.declared.words.Item.TheVariants as item
