@@ -5,4 +5,3 @@ pub mod Placed
 pub mod Old
 pub mod Next
 pub mod Begins
-pub mod Owners

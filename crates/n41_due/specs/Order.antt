@@ -1,23 +1,14 @@
 -- Which of the requests that are due goes first (own).
-use Rattle.std.specs.Prelude.{◌≡◌, ℕ, ◌==◌, Bool, true, false, ◌&&◌, ◌||◌, List, [], Option, Some, None, nat_lt, is_some, slice_get}
+use Rattle.std.specs.Prelude.{◌≡◌, ℕ, ◌==◌, Bool, true, false, ◌&&◌, ◌||◌, List, Option, Some, None, nat_lt, slice_get}
 use Rattle.n41_types.specs.declared.plans.Request.{Request}
 use Rattle.n41_model.specs.declared.words.Item.{Item}
 use Rattle.n41_model.specs.declared.words.Item.TheVariants as item
 use Rattle.n41_model.specs.declared.words.Setup.{Setup}
-use Rattle.n41_calls.specs.Files.{Files}
-use Rattle.n41_calls.specs.Walks.{Seen, Sight, next_plan}
 use Rattle.n41_view.specs.View.{View}
 use Rattle.n41_view.specs.Due.{due_in}
-use Rattle.n41_view.specs.Step.{seat_ready, seat_seen}
+use Rattle.n41_view.specs.Step.{seat_ready}
 use Rattle.n41_view.specs.declared.tables.Seat.{Seat}
-
--- what a command sees in no session, with no owner of its opens
-abbrev pub handle_alone : Option Seen → Sight
-handle_alone h = record { session = None; owner = []; seen = h }
-
--- The command has a next plan: that hangs neither on the session's sizes nor on the owner of the opens.
-abbrev pub has_next : Files → Seat → Bool
-has_next g s = is_some (next_plan (handle_alone (seat_seen g s)) s.command s.way)
+use Rattle.n41_next.specs.Next.{has_next}
 
 -- the command can go on, and has a next plan
 abbrev pub can_begin : View → Option Seat → Bool

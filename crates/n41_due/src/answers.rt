@@ -5,10 +5,10 @@ ghost use Rattle.n41_view.specs.Due.{has_ended_in, is_over_in};
 ghost use Rattle.n41_view.specs.Causes.{CauseIn, any_doubt, given_in};
 ghost use Rattle.n41_view.specs.Step.{seat_seen};
 
-use crate::handles::is_keep;
 use crate::lookup::Lookup;
 use crate::slots::any_doubt;
 use n41_files::{Seen, is_close, label_of};
+use n41_next::is_keep;
 use n41_types::{Answer, Command, Value};
 use n41_view::Seat;
 

@@ -3,14 +3,11 @@
 
 mod answers;
 mod due;
-mod handles;
 mod lookup;
 mod plans;
 mod requests;
 mod seats;
-mod sights;
 mod slots;
-mod walks;
 mod xids;
 
 pub use lookup::Lookup;

@@ -4,6 +4,7 @@ ghost use Rattle.n41_due.specs.Places.{place_on, numbered};
 ghost use Rattle.n41_model.specs.declared.words.Item.{Item as ItemValue};
 ghost use Rattle.n41_due.specs.Old.{is_bare_old};
 ghost use Rattle.n41_due.specs.Order.{IsNext};
+ghost use Rattle.n41_view.specs.Step.{seat_plan, seat_sight};
 ghost use Rattle.n41_view.specs.Due.{finishing_in, first_free, new_on, new_bare, goes_slot, begins_seat, due_item, due_in};
 ghost use Rattle.n41_view.specs.Causes.{any_old, awaited_in, is_old_in};
 
@@ -12,6 +13,7 @@ use crate::plans::{own_plan, phase_plan};
 use crate::slots::{again, any_old, first_free, first_old, held_with, highest};
 use crate::xids::is_named;
 use n41_model::{Item, Phase, Sent, Setup};
+use n41_next::{Sight, next_plan};
 use n41_types::{NoMemory, Plan, Request, SlotUse};
 use n41_view::Seat;
 use std::alloc::Global;
@@ -131,6 +133,19 @@ impl Lookup<'_> {
             None => None,
             Some(plan) => self.new_on(setup, plan),
         }
+    }
+
+    /// The next plan of a caller's command, where the callers are of this user.
+    fn seat_plan(&self, alloc: Global, uid: u32, seat: &Seat) -> Result<Option<Plan>, NoMemory>
+        ensures { IfOk result (λ o. o ≡ seat_plan self.now.facts uid self.now.files seat.now) }
+    {
+        let sight = Sight {
+            session: self.facts.session,
+            uid,
+            sessions: self.facts.sessions,
+            seen: self.files.seen(seat.way.handle),
+        };
+        next_plan(alloc, &sight, &seat.command, &seat.way)
     }
 
     fn begin_request(

@@ -7,8 +7,8 @@ ghost use Rattle.n41_due.specs.Order.{can_begin, began_of, is_sooner};
 
 use crate::lookup::Lookup;
 use crate::slots::{has_passed, open_held};
-use crate::walks::has_next;
 use n41_model::Way;
+use n41_next::has_next;
 use n41_view::Seat;
 
 /// Whether every command is answered.

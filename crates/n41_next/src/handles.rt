@@ -100,7 +100,7 @@ pub(crate) fn resize(seen: &Option<Seen>, size: u64) -> Result<Option<Plan>, NoM
 }
 
 /// Whether a close sends nothing.
-pub(crate) fn is_keep(shrink: Shrink) -> bool
+pub fn is_keep(shrink: Shrink) -> bool
     ensures { result ≡ is_keep shrink }
 {
     match shrink {
@@ -159,7 +159,7 @@ pub(crate) fn close(stale: Option<Stale>, seen: &Option<Seen>) -> Result<Option<
 }
 
 /// Whether a close asks for anything.
-#[tactic(auto, using(crate::proofs::Begins::has_closed))]
+#[tactic(auto, using(crate::proofs::Nexts::has_closed))]
 pub(crate) fn has_close(stale: Option<Stale>, seen: &Option<Seen>) -> bool
     ensures { result ≡ is_some (close stale seen.now) }
 {

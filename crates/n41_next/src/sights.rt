@@ -9,7 +9,7 @@ use std::marker::Model;
 
 /// What a caller's command sees: the session, whose the opens are that are made now, and its handle, where it has one.
 #[derive(Drop)]
-pub(crate) struct Sight<'a> {
+pub struct Sight<'a> {
     pub session: Option<SessionMade>,
     pub uid: u32,
     /// How many sessions were made.

@@ -2,11 +2,9 @@
 
 ghost use Rattle.std.specs.Prelude.{◌≡◌, ℕ, Some, IfOk, take, is_some, option_copied};
 ghost use Rattle.n41_calls.specs.Walks.{create, goal, last_of, list, make_dir, next_plan, opening, remove, rename, walk_most, walk_or};
-ghost use Rattle.n41_view.specs.Step.{seat_plan, seat_sight};
-ghost use Rattle.n41_due.specs.Order.{handle_alone, has_next};
+ghost use Rattle.n41_next.specs.Next.{handle_alone, has_next};
 
 use crate::handles::{close, has_close, read, read_most, resize, write, write_most};
-use crate::lookup::Lookup;
 use crate::sights::Sight;
 use n41_files::{Files, Seen};
 use n41_model::{Listed, Way};
@@ -160,8 +158,8 @@ fn first_names(alloc: Global, most: usize, names: &[Name]) -> Result<Path, NoMem
 }
 
 /// The next plan of a command that has come so far, as this session's sizes allow.
-#[tactic(auto, using(crate::proofs::Begins::walk_next))]
-fn next_plan(
+#[tactic(auto, using(crate::proofs::Nexts::walk_next))]
+pub fn next_plan(
     alloc: Global,
     sight: &Sight,
     command: &Option<Command>,
@@ -181,26 +179,6 @@ fn next_plan(
     }
 }
 
-impl Lookup<'_> {
-    /// The next plan of a caller's command, where the callers are of this user.
-    pub(crate) fn seat_plan(
-        &self,
-        alloc: Global,
-        uid: u32,
-        seat: &Seat,
-    ) -> Result<Option<Plan>, NoMemory>
-        ensures { IfOk result (λ o. o ≡ seat_plan self.now.facts uid self.now.files seat.now) }
-    {
-        let sight = Sight {
-            session: self.facts.session,
-            uid,
-            sessions: self.facts.sessions,
-            seen: self.files.seen(seat.way.handle),
-        };
-        next_plan(alloc, &sight, &seat.command, &seat.way)
-    }
-}
-
 /// Whether a path has a last name.
 fn has_last(path: &[Name]) -> bool
     ensures { result ≡ is_some (last_of path.now) }
@@ -209,7 +187,7 @@ fn has_last(path: &[Name]) -> bool
 }
 
 /// Whether a command that has come so far, and sees this of its handle, asks for anything at the end of its walk.
-#[tactic(auto, using(crate::proofs::Begins::has_created, crate::proofs::Begins::has_opening, crate::proofs::Begins::has_read, crate::proofs::Begins::has_written, crate::proofs::Begins::has_resized, crate::proofs::Begins::has_listed, crate::proofs::Begins::has_made, crate::proofs::Begins::has_removed, crate::proofs::Begins::has_renamed))]
+#[tactic(auto, using(crate::proofs::Nexts::has_created, crate::proofs::Nexts::has_opening, crate::proofs::Nexts::has_read, crate::proofs::Nexts::has_written, crate::proofs::Nexts::has_resized, crate::proofs::Nexts::has_listed, crate::proofs::Nexts::has_made, crate::proofs::Nexts::has_removed, crate::proofs::Nexts::has_renamed))]
 fn has_goal(seen: &Option<Seen>, command: &Command, way: &Way) -> bool
     ensures { result ≡ is_some (goal (handle_alone seen.now) command.now way.now) }
 {
