@@ -1,5 +1,5 @@
 -- Tables whose parts are those of the step are the step, and ready for the next.
-use Rattle.std.proofs.Common.{◌≡◌, ℕ, suc, ◌+◌, ◌<◌, ◌≤◌, Bool, List, [], map, length, Option, None, is_none, slice_get, vec_capacity, refl, sym, ◌∙◌, ap, subst, add-one, arith}
+use Rattle.std.proofs.Common.{◌≡◌, ℕ, suc, ◌+◌, ◌<◌, ◌≤◌, Bool, List, [], map, length, Option, Some, None, is_none, slice_get, vec_capacity, refl, sym, ◌∙◌, ap, subst, add-one, arith}
 use Rattle.std.specs.declared.vec.Vec.{Vec}
 use Rattle.std.specs.Vec.{with_items}
 use Rattle.std.proofs.lemmas.List.{length-map, with_items_is}

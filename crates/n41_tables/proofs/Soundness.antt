@@ -194,7 +194,7 @@ answered_opened a f None = refl
 answered_opened a f (Some s) = given_opened s.command a s.way f
 
 told_or : (b : Bool) (k : Option Command) (t : Way) (a : Said) (y : Reply) (f : Files) → (files_or f (if b then files_after k t a.plan a.slot y f else Some f)).opened ≤ suc f.opened
-told_or true k t a y f = few_after k t a.plan a.slot y f
+told_or true k t a y f = few_after f k t a.plan a.slot y
 told_or false k t a y f = more _ _ (same f.opened)
 
 seat_opened : (a : Said) (y : Reply) (f : Files) (o : Option Seat) → (files_or f (seat_told a y f o)).opened ≤ suc f.opened

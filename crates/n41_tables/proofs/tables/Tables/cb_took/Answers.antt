@@ -1,4 +1,4 @@
-use Rattle.std.proofs.Common.{ℕ, ◌∙◌, refl, ap, add-one}
+use Rattle.std.proofs.Common.{None, ℕ, ◌∙◌, refl, ap, add-one}
 use Rattle.n41_journal.specs.declared.events.Event.TheVariants.{CbTook}
 use Rattle.n41_view.specs.View.{View}
 use Rattle.n41_view.specs.Step.{step, counted}
@@ -9,10 +9,10 @@ use Rattle.n41_tables.proofs.tables.Tables.cb_took.Goals as goal
 pub invariant_of-self : goal.invariant_of-self
 invariant_of-self c =
     ready c.self.inside (record { facts = c.counted.new.facts; bare = c.self.inside.bare; slots = c.self.inside.slots; seats = c.self.inside.seats; files = c.self.inside.files }) (CbTook 0 0 c.args.call) c.self.invariant
-    (parts c.counted.new.facts c.self.inside.bare c.self.inside.slots.items c.self.inside.seats.items c.self.inside.files (step (inside c.self.inside) (CbTook 0 0 c.args.call)) (c.counted.ensures ∙ ap (λ (n : ℕ). counted (record c.self.inside.facts { takes = n })) (add-one c.self.inside.facts.takes)) refl refl refl refl)
+    (parts c.counted.new.facts c.self.inside.bare c.self.inside.slots.items c.self.inside.seats.items c.self.inside.files (step (inside c.self.inside) (CbTook 0 0 c.args.call)) (c.counted.ensures ∙ ap (λ (n : ℕ). counted None (record c.self.inside.facts { takes = n })) (add-one c.self.inside.facts.takes)) refl refl refl refl)
     c.self.invariant.room
 
 pub returns : goal.returns
 returns c =
-    parts c.counted.new.facts c.self.inside.bare c.self.inside.slots.items c.self.inside.seats.items c.self.inside.files (step (inside c.self.inside) (CbTook 0 0 c.args.call)) (c.counted.ensures ∙ ap (λ (n : ℕ). counted (record c.self.inside.facts { takes = n })) (add-one c.self.inside.facts.takes)) refl refl refl refl
+    parts c.counted.new.facts c.self.inside.bare c.self.inside.slots.items c.self.inside.seats.items c.self.inside.files (step (inside c.self.inside) (CbTook 0 0 c.args.call)) (c.counted.ensures ∙ ap (λ (n : ℕ). counted None (record c.self.inside.facts { takes = n })) (add-one c.self.inside.facts.takes)) refl refl refl refl
     ∙ ap (λ (w : View). step w (CbTook 0 0 c.args.call)) c.self.view_is

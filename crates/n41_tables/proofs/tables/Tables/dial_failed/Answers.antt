@@ -1,4 +1,4 @@
-use Rattle.std.proofs.Common.{◌∙◌, refl, ap}
+use Rattle.std.proofs.Common.{None, ◌∙◌, refl, ap}
 use Rattle.n41_journal.specs.declared.events.Event.TheVariants.{DialFailed}
 use Rattle.n41_view.specs.View.{View}
 use Rattle.n41_view.specs.declared.tables.Facts.{Facts}
@@ -10,10 +10,10 @@ use Rattle.n41_tables.proofs.tables.Tables.dial_failed.Goals as goal
 pub invariant_of-self : goal.invariant_of-self
 invariant_of-self c =
     ready c.self.inside (record { facts = c.counted.new.facts; bare = c.self.inside.bare; slots = c.self.inside.slots; seats = c.self.inside.seats; files = c.self.inside.files }) (DialFailed) c.self.invariant
-    (parts c.counted.new.facts c.self.inside.bare c.self.inside.slots.items c.self.inside.seats.items c.self.inside.files (step (inside c.self.inside) (DialFailed)) (c.counted.ensures ∙ ap (λ (f : Facts). counted f) c.ended_round.ensures) refl refl refl refl)
+    (parts c.counted.new.facts c.self.inside.bare c.self.inside.slots.items c.self.inside.seats.items c.self.inside.files (step (inside c.self.inside) (DialFailed)) (c.counted.ensures ∙ ap (λ (f : Facts). counted None f) c.ended_round.ensures) refl refl refl refl)
     c.self.invariant.room
 
 pub returns : goal.returns
 returns c =
-    parts c.counted.new.facts c.self.inside.bare c.self.inside.slots.items c.self.inside.seats.items c.self.inside.files (step (inside c.self.inside) (DialFailed)) (c.counted.ensures ∙ ap (λ (f : Facts). counted f) c.ended_round.ensures) refl refl refl refl
+    parts c.counted.new.facts c.self.inside.bare c.self.inside.slots.items c.self.inside.seats.items c.self.inside.files (step (inside c.self.inside) (DialFailed)) (c.counted.ensures ∙ ap (λ (f : Facts). counted None f) c.ended_round.ensures) refl refl refl refl
     ∙ ap (λ (w : View). step w (DialFailed)) c.self.view_is
