@@ -1,5 +1,5 @@
 -- A step for one caller or one slot leaves the others, so that it is a change at one place.
-use Rattle.std.proofs.Common.{◌≡◌, ◌≢◌, ℕ, ◌+◌, ◌<◌, ◌≤◌, ◌==◌, true, false, length, List, map, set, get_or, Option, Some, None, slice_get, refl, sym, ◌∙◌, ap, arith, zero-add, eq-eqb}
+use Rattle.std.proofs.Common.{◌≡◌, ◌≢◌, ℕ, ◌+◌, ◌<◌, ◌≤◌, ◌==◌, true, false, length, List, map, set, get_or, Option, Some, None, IfSome, slice_get, refl, sym, ◌∙◌, ap, arith, zero-add, eq-eqb}
 use Rattle.std.proofs.lemmas.Bool.{eqb-true, ne_eqb}
 use Rattle.std.proofs.lemmas.Option.{slice_get-get_or, slice_get_past}
 use Rattle.n41_types.specs.declared.commands.Answer.{Answer}
@@ -11,7 +11,8 @@ use Rattle.n41_model.specs.Requests.{is_on, is_use_of, is_bare, is_bare_use}
 use Rattle.n41_calls.specs.Calls.{is_caller, fresh_call, put_call, took_call, answered_call}
 use Rattle.n41_view.specs.declared.tables.Seat.{Seat}
 use Rattle.n41_view.specs.declared.tables.Slot.{Slot}
-use Rattle.n41_view.specs.Step.{put_slot, began_seat, put_seat, took_seat, answered_seat, with_call, call_of, Said, seat_hour}
+use Rattle.n41_view.specs.Step.{put_slot, began_seat, put_seat, took_seat, answered_seat, with_call, call_of, Said, seat_hour, seat_answered, seat_told, told_by}
+use Rattle.n41_calls.specs.Files.{Files}
 use Rattle.n41_view.specs.View.{View}
 use Rattle.n41_chosen.proofs.Choices.{then_of, else_of}
 use Rattle.n41_tables.specs.Earned.{earned_at}
@@ -121,3 +122,19 @@ not_bare (Some u) n e = absurd (cc)
 -- a request without a slot changes no slot
 pub slot_bare : (m at : ℕ) (r : Request) (o : Option ℕ) (ss : List Slot) → is_bare r ≡ true → map (put_slot m at r o) ss ≡ ss
 slot_bare m at r o ss e = step_nothing (put_slot m at r o) ss (λ s. else_of (is_on r s.number) _ s (not_bare r.slot s.number e))
+
+-- ---- where there is no such caller
+
+pub off_seats : (o : Option Answer) (d : ℕ) (ss : List Seat) → IsPlaced seat_place 0 ss → length ss ≤ d → IfSome o (λ a. ss ≡ map (answered_seat d a) ss)
+off_seats None d ss p l = tt
+off_seats (Some a) d ss p l = sym (answered_past d a ss p l)
+
+pub off_files : (o : Option Answer) (d : ℕ) (ss : List Seat) (f : Files) → length ss ≤ d → IfSome o (λ a. f ≡ seat_answered a f (slice_get ss d))
+off_files None d ss f l = tt
+off_files (Some a) d ss f l = ap (λ (s : Option Seat). seat_answered a f s) (sym (slice_get_past ss d l))
+
+pub told_off : (w : View) (a : Said) (y : Reply) (d : ℕ) → a.owner ≡ Some d → length w.seats ≤ d → told_by w a y a.owner ≡ Some w.files
+told_off w a y d e l = ap (λ (o : Option ℕ). told_by w a y o) e ∙ ap (λ (s : Option Seat). seat_told a y w.files s) (slice_get_past w.seats d l)
+
+pub told_on : (w : View) (a : Said) (y : Reply) (d : ℕ) (x : Seat) → a.owner ≡ Some d → d < length w.seats → told_by w a y a.owner ≡ seat_told a y w.files (Some (get_or w.seats d x))
+told_on w a y d x e l = ap (λ (o : Option ℕ). told_by w a y o) e ∙ ap (λ (s : Option Seat). seat_told a y w.files s) (slice_get-get_or w.seats d x l)
