@@ -1,5 +1,5 @@
 -- What is kept of each slot, and how an event moves it.
-use Rattle.std.specs.Prelude.{◌≡◌, ℕ, ◌+◌, ◌-◌, ◌==◌, Bool, true, false, ◌&&◌, ◌||◌, not, List, [], ◌∷◌, ◌++◌, map, Option, Some, None, if◌then◌else◌, option_copied, option_to_list, is_some, nat_lt}
+use Rattle.std.specs.Prelude.{◌≡◌, ℕ, suc, ◌+◌, ◌-◌, ◌==◌, Bool, true, false, ◌&&◌, ◌||◌, not, List, [], ◌∷◌, ◌++◌, map, Option, Some, None, if◌then◌else◌, option_copied, option_to_list, is_some, nat_lt}
 use Rattle.std.specs.List.{list_any}
 use Rattle.n41_types.specs.declared.plans.Request.{Request}
 use Rattle.n41_types.specs.declared.plans.SlotUse.{SlotUse}
@@ -141,9 +141,9 @@ abbrev pub awaits_by : ℕ → List Row → Option Stale → Option Seen → Boo
 awaits_by k ws (Some t) (Some s) = open_by (opener s) t.place k ws
 awaits_by k ws t s = false
 
--- what a close goes by that is told so now, at this place
+-- what a close goes by that is told so now, behind so many events
 abbrev pub stale_by : ℕ → ℕ → List Row → Option Seen → Stale
-stale_by at k ws s = record { place = at + 1; alone = not (open_by (owner_seen s) at k ws) }
+stale_by at k ws s = record { place = suc at; alone = not (open_by (owner_seen s) at k ws) }
 
 -- ---- causes
 
