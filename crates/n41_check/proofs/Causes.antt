@@ -12,13 +12,14 @@ use Rattle.n41_types.specs.Plans.{class_of}
 use Rattle.n41_journal.specs.declared.events.Event.{Event}
 use Rattle.n41_journal.specs.declared.events.Event.TheVariants.{Answered, Put, Took}
 use Rattle.n41_calls.specs.Answers.{UnknownCause, UnreachableCause, round_limit}
-use Rattle.n41_calls.specs.Calls.{call, command, given, is_caller, number, owner}
+use Rattle.n41_calls.specs.Calls.{call, command, files, given, is_caller, number, owner}
 use Rattle.n41_results.specs.declared.replies.Reply.{Reply}
-use Rattle.n41_model.specs.Requests.{doubt, out, outs, rounds}
-use Rattle.n41_view.specs.Causes.{given_in, is_changing}
+use Rattle.n41_model.specs.Requests.{doubt, moment, out, outs, rounds}
+use Rattle.n41_view.specs.Causes.{is_changing}
+use Rattle.n41_calls.specs.Files.{Files}
 use Rattle.n41_view.specs.View.{seat_of}
 use Rattle.n41_view.specs.declared.tables.Seat.{Seat}
-use Rattle.n41_check.specs.Callers.{seat_at}
+use Rattle.n41_check.specs.Callers.{given_at, seat_at}
 use Rattle.n41_check.specs.Rows.{Apart, Row, is_changing_out, is_doubted, row_at, row_of, rows}
 use Rattle.n41_check.specs.Rules.{Breaks, IsAsked, IsCaused, Keeps, rank}
 use Rattle.n41_check.specs.Shows.{Shows, caused_in, unknown_in}
@@ -92,8 +93,11 @@ over_is n js m b s e = (λ h. quiet_from (rounds js) (sym (ended_is n js m s) �
 busy_is : (n : ℕ) (js : List Event) (c : ℕ) (m : Machine) → Shows n js m → (seat_at m.seats c).busy ≡ (call n js c).busy
 busy_is n js c m s = ap (λ (z : Seat). z.busy) (s.seats c)
 
-given_is : (n : ℕ) (js : List Event) (c : ℕ) (m : Machine) → Shows n js m → given_in m.facts.moment (seat_at m.seats c) ≡ given n js c
-given_is n js c m s = ap (λ (z : Seat). given_in m.facts.moment z) (s.seats c) ∙ ap (λ (f : Now). given_in f.moment (seat_of n js c)) s.facts
+given_is : (n : ℕ) (js : List Event) (c : ℕ) (m : Machine) → Shows n js m → given_at m.facts.moment m.files (seat_at m.seats c) ≡ given n js c
+given_is n js c m s =
+    ap (λ (z : Seat). given_at m.facts.moment m.files z) (s.seats c)
+    ∙ (ap (λ (f : Now). given_at f.moment m.files (seat_of n js c)) s.facts
+    ∙ ap (λ (g : Files). given_at (moment js) g (seat_of n js c)) s.files)
 
 unknown_true : (n : ℕ) (js : List Event) (c : ℕ) (m : Machine) → Shows n js m → unknown_in m c ≡ true → UnknownCause n js c
 unknown_true n js c m s e =
@@ -120,13 +124,13 @@ not_true false e = refl
 
 unreachable_true : (n : ℕ) (js : List Event) (c k : ℕ) (m : Machine) → Shows n js m → caused_in m c (answer.Unreachable k) ≡ true → UnreachableCause n js c k
 unreachable_true n js c k m s e =
-    let g = is_none (given_in m.facts.moment (seat_at m.seats c)) in
+    let g = is_none (given_at m.facts.moment m.files (seat_at m.seats c)) in
     let p = both ((k == 16) && nat_le 16 m.facts.quiet && g) (not (unknown_in m c)) e in
     let q = both ((k == 16) && nat_le 16 m.facts.quiet) g p.0 in
     let r = both (k == 16) (nat_le 16 m.facts.quiet) q.0 in
     record {
       count = grind (arith, nat_tests, r.0);
-      ungiven = sym (given_is n js c m s) ∙ no_answer (given_in m.facts.moment (seat_at m.seats c)) q.1;
+      ungiven = sym (given_is n js c m s) ∙ no_answer (given_at m.facts.moment m.files (seat_at m.seats c)) q.1;
       ended = quiet_from (rounds js) (sym (ended_is n js m s) ∙ r.1);
       certain = λ u. (let z : true ≡ false = sym (unknown_of n js c m s u) ∙ not_true (unknown_in m c) p.1 in absurd (cc));
     }
@@ -139,7 +143,7 @@ unreachable_of : (n : ℕ) (js : List Event) (c k : ℕ) (m : Machine) → Shows
 unreachable_of n js c k m s u =
     let a : (k == 16) ≡ true = (let h = u.count in grind (arith, nat_tests, h)) in
     let x : nat_le 16 m.facts.quiet ≡ true = ended_is n js m s ∙ quiet_of (rounds js) u.ended in
-    let g : is_none (given_in m.facts.moment (seat_at m.seats c)) ≡ true = ap (λ (o : Option Answer). is_none o) (given_is n js c m s ∙ u.ungiven) in
+    let g : is_none (given_at m.facts.moment m.files (seat_at m.seats c)) ≡ true = ap (λ (o : Option Answer). is_none o) (given_is n js c m s ∙ u.ungiven) in
     let z : unknown_in m c ≡ false = certain_of n js c m (unknown_in m c) refl s u.certain in
     grind (arith, a, x, g, z)
 

@@ -1,5 +1,5 @@
 -- What is kept of requests is what a journal says, event by event.
-use Rattle.std.proofs.Common.{◌≡◌, ◌⊎◌, inl, inr, ℕ, ◌==◌, Bool, true, false, List, ◌∷◌, map, length, Option, Some, None, if◌then◌else◌, refl, sym, subst, ◌∙◌, ap}
+use Rattle.std.proofs.Common.{◌≡◌, ◌⊎◌, inl, inr, ℕ, suc, ◌==◌, Bool, true, false, List, ◌∷◌, map, length, Option, Some, None, if◌then◌else◌, refl, sym, subst, ◌∙◌, ap}
 use Rattle.std.proofs.lemmas.List.{length-map, with_items_is}
 use Rattle.std.specs.Prelude.{is_some}
 use Rattle.std.specs.Vec.{with_items}
@@ -33,17 +33,17 @@ rows_with v f xs ws e g =
 
 -- ---- a Put
 
-put_keeps : (r : Request) (o : Option ℕ) → KeepsNumbers (put_row r o)
-put_keeps r o w = at_test (is_on r w.number) refl where
-  at_test : (b : Bool) → is_on r w.number ≡ b → (put_row r o w).number ≡ w.number
+put_keeps : (at : ℕ) (r : Request) (o : Option ℕ) → KeepsNumbers (put_row at r o)
+put_keeps at r o w = at_test (is_on r w.number) refl where
+  at_test : (b : Bool) → is_on r w.number ≡ b → (put_row at r o w).number ≡ w.number
   at_test true e = rw e refl
   at_test false e = rw e refl
 
-put_room : (r : Request) (u : SlotUse) (o : Option ℕ) (ws : List Row) (s : ℕ) (b : Bool) → r.slot ≡ Some u → is_on r s ≡ b → (put_row r o (blank s) ≡ blank s) ⊎ (is_there (with_row u.slot ws) s ≡ true)
-put_room r u o ws s true q e =
+put_room : (at : ℕ) (r : Request) (u : SlotUse) (o : Option ℕ) (ws : List Row) (s : ℕ) (b : Bool) → r.slot ≡ Some u → is_on r s ≡ b → (put_row at r o (blank s) ≡ blank s) ⊎ (is_there (with_row u.slot ws) s ≡ true)
+put_room at r u o ws s true q e =
     let k : u.slot ≡ s = use_only u s (sym (ap (λ v. is_use_of v s) q) ∙ e) in
     inr (subst (λ (t : ℕ). is_there (with_row u.slot ws) t ≡ true) k (there_with ws u.slot))
-put_room r u o ws s false q e = inl (rw e refl)
+put_room at r u o ws s false q e = inl (rw e refl)
 
 -- what was asked with an xid, once a request was put
 abbrev pub AskedAfter : Request → Requests → Requests → Type 0
@@ -52,16 +52,17 @@ AskedAfter r q z = (x : ℕ) → asked z x ≡ (if r.xid == x then Some r else a
 asked_put : (n : ℕ) (js : List Event) (c p : ℕ) (r : Request) (q z : Requests) → Knows n js q → AskedAfter r q z → (x : ℕ) → asked z x ≡ request (Put c p r ∷ js) x
 asked_put n js c p r q z k a x = a x ∙ ap (λ (o : Option Request). if r.xid == x then Some r else o) (k.by_xid x)
 
-pub knows_put : (n : ℕ) (js : List Event) (c p : ℕ) (r : Request) (u : SlotUse) (o : Option ℕ) (q z : Requests) → r.slot ≡ Some u → AskedAfter r q z → rows z.slots.items ≡ map (put_row r o) (with_row u.slot (rows q.slots.items)) → Knows n js q → Keeps n js (Put c p r) Slots → IsOwner n js r o → Knows n (Put c p r ∷ js) z
-knows_put n js c p r u o q z e a g k h w =
+pub knows_put : (n : ℕ) (js : List Event) (c p at : ℕ) (r : Request) (u : SlotUse) (o : Option ℕ) (q z : Requests) → at ≡ suc (length js) → r.slot ≡ Some u → AskedAfter r q z → rows z.slots.items ≡ map (put_row at r o) (with_row u.slot (rows q.slots.items)) → Knows n js q → Keeps n js (Put c p r) Slots → IsOwner n js r o → Knows n (Put c p r ∷ js) z
+knows_put n js c p at r u o q z l e a g k h w =
     let ws = rows q.slots.items in
     record {
       by_xid = asked_put n js c p r q z k a;
       by_slot = λ s.
           ap (λ (vs : List Row). row_at vs s) g
-          ∙ (row_moved (put_row r o) (put_keeps r o) (with_row u.slot ws) s (put_room r u o ws s (is_on r s) e refl)
-          ∙ (ap (put_row r o) (row_with ws u.slot s ∙ k.by_slot s) ∙ put_is n js c p r s o (k.lone s) w));
-      apart = subst Apart (sym g) (apart_moved (put_row r o) (put_keeps r o) (with_row u.slot ws) (apart_with ws u.slot k.apart));
+          ∙ (row_moved (put_row at r o) (put_keeps at r o) (with_row u.slot ws) s (put_room at r u o ws s (is_on r s) e refl)
+          ∙ (ap (put_row at r o) (row_with ws u.slot s ∙ k.by_slot s)
+          ∙ (ap (λ (i : ℕ). put_row i r o (row_of n js s)) l ∙ put_is n js c p r s o (k.lone s) w)));
+      apart = subst Apart (sym g) (apart_moved (put_row at r o) (put_keeps at r o) (with_row u.slot ws) (apart_with ws u.slot k.apart));
       lone = λ s. put_lone js c p r s (k.lone s) (room_from n js c p r s (k.lone s) h);
     }
 
@@ -76,7 +77,7 @@ pub knows_bare : (n : ℕ) (js : List Event) (c p : ℕ) (r : Request) (o : Opti
 knows_bare n js c p r o q z e a g k w = record {
   by_xid = asked_put n js c p r q z k a;
   by_slot = λ s.
-      let h : put_row r o (row_of n js s) ≡ row_of n js s = rw (bare_off r s e) refl in
+      let h : put_row (suc (length js)) r o (row_of n js s) ≡ row_of n js s = rw (bare_off r s e) refl in
       ap (λ (vs : List Row). row_at vs s) g ∙ (k.by_slot s ∙ (sym h ∙ put_is n js c p r s o (k.lone s) w));
   apart = subst Apart (sym g) k.apart;
   lone = λ s. put_lone js c p r s (k.lone s) (λ h. absurd (bare_on r s e h));

@@ -5,6 +5,7 @@ pub mod Rows
 pub mod Puts
 pub mod Keys
 pub mod Alone
+pub mod Waiting
 pub mod Knowing
 pub mod Seats
 pub mod Leading

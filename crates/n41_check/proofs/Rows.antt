@@ -1,5 +1,5 @@
 -- What each event does to the row of a slot is what it does to what the journal says of it.
-use Rattle.std.proofs.Common.{◌≡◌, ◌⊎◌, inl, inr, ℕ, ◌-◌, ◌≤◌, Bool, true, false, ◌&&◌, not, List, ◌∷◌, length, Option, Some, None, if◌then◌else◌, refl, sym, ◌∙◌, ap, arith}
+use Rattle.std.proofs.Common.{◌≡◌, ◌⊎◌, inl, inr, ℕ, suc, ◌-◌, ◌≤◌, Bool, true, false, ◌&&◌, not, List, ◌∷◌, length, Option, Some, None, if◌then◌else◌, refl, sym, ◌∙◌, ap, arith}
 use Rattle.std.proofs.lemmas.Bool.Decides.{nat_tests}
 use Rattle.std.specs.Prelude.{option_to_list, is_some}
 use Rattle.n41_types.specs.declared.plans.Request.{Request}
@@ -24,12 +24,12 @@ pub lone_length : (o : Option Request) (rs : List Request) → rs ≡ option_to_
 lone_length None rs e = rw e (omega arith)
 lone_length (Some r) rs e = rw e (omega arith)
 
-abbrev row : ℕ → ℕ → Bool → Option Request → Option Request → Bool → Bool → Option ℕ → Row
-row a b c d e f g h = record { number = a; used = b; retried = c; last = d; out = e; waits = f; doubt = g; owner = h }
+abbrev row : ℕ → ℕ → Bool → Option Request → Option Request → ℕ → Bool → Bool → Option ℕ → Row
+row a b c d e i f g h = record { number = a; used = b; retried = c; last = d; out = e; begun = i; waits = f; doubt = g; owner = h }
 
 -- rows whose parts are the same are the same
-same_row : (v w : Row) → v.number ≡ w.number → v.used ≡ w.used → v.retried ≡ w.retried → v.last ≡ w.last → v.out ≡ w.out → v.waits ≡ w.waits → v.doubt ≡ w.doubt → v.owner ≡ w.owner → v ≡ w
-same_row v w a b c d e f g h = let p : row v.number v.used v.retried v.last v.out v.waits v.doubt v.owner ≡ row w.number w.used w.retried w.last w.out w.waits w.doubt w.owner = rw (a, b, c, d, e, f, g, h) refl in p
+same_row : (v w : Row) → v.number ≡ w.number → v.used ≡ w.used → v.retried ≡ w.retried → v.last ≡ w.last → v.out ≡ w.out → v.begun ≡ w.begun → v.waits ≡ w.waits → v.doubt ≡ w.doubt → v.owner ≡ w.owner → v ≡ w
+same_row v w a b c d e i f g h = let p : row v.number v.used v.retried v.last v.out v.begun v.waits v.doubt v.owner ≡ row w.number w.used w.retried w.last w.out w.begun w.waits w.doubt w.owner = rw (a, b, c, d, e, i, f, g, h) refl in p
 
 -- ---- a Put
 
@@ -53,7 +53,7 @@ first_of : (o : Option Request) → first (option_to_list o) ≡ o
 first_of None = refl
 first_of (Some r) = refl
 
-pub owner_new : (n : ℕ) (js : List Event) (c p : ℕ) (r : Request) (s : ℕ) → is_new js r (slot_number r.slot) ≡ true → owner n (Put c p r ∷ js) s ≡ (if is_on r s then in_running (phase js) (chosen js (ledger n js).calls r.plan n) else owner n js s)
+pub owner_new : (n : ℕ) (js : List Event) (c p : ℕ) (r : Request) (s : ℕ) → is_new js r (slot_number r.slot) ≡ true → owner n (Put c p r ∷ js) s ≡ (if is_on r s then in_running (phase js) (chosen js (ledger n js) r n) else owner n js s)
 owner_new n js c p r s e = rw (e, owner) refl
 
 owner_again : (n : ℕ) (js : List Event) (c p : ℕ) (r : Request) (s : ℕ) → is_new js r (slot_number r.slot) ≡ false → owner n (Put c p r ∷ js) s ≡ owner n js s
@@ -63,27 +63,27 @@ owner_other : (n : ℕ) (js : List Event) (c p : ℕ) (r : Request) (s : ℕ) (b
 owner_other n js c p r s true g e = owner_new n js c p r s g ∙ rw e refl
 owner_other n js c p r s false g e = owner_again n js c p r s g
 
-put_other : (n : ℕ) (js : List Event) (c p : ℕ) (r : Request) (s : ℕ) (o : Option ℕ) → is_on r s ≡ false → put_row r o (row_of n js s) ≡ row_of n (Put c p r ∷ js) s
+put_other : (n : ℕ) (js : List Event) (c p : ℕ) (r : Request) (s : ℕ) (o : Option ℕ) → is_on r s ≡ false → put_row (suc (length js)) r o (row_of n js s) ≡ row_of n (Put c p r ∷ js) s
 put_other n js c p r s o e =
-    let h : put_row r o (row_of n js s) ≡ row_of n js s = rw e refl in
-    h ∙ same_row (row_of n js s) (row_of n (Put c p r ∷ js) s) refl (rw e refl) (rw e refl) (rw e refl) (rw e refl) (rw e refl) (rw e refl) (sym (owner_other n js c p r s (is_new js r (slot_number r.slot)) refl e))
+    let h : put_row (suc (length js)) r o (row_of n js s) ≡ row_of n js s = rw e refl in
+    h ∙ same_row (row_of n js s) (row_of n (Put c p r ∷ js) s) refl (rw e refl) (rw e refl) (rw e refl) (rw e refl) (rw e refl) (rw e refl) (rw e refl) (sym (owner_other n js c p r s (is_new js r (slot_number r.slot)) refl e))
 
 -- the row after a Put, where what is out on the slot is this
-abbrev put_on : Request → Option ℕ → Row → Bool → Row
-put_on r o w b = row w.number (turn_of r.slot) b (Some r) (if b then w.out else Some r) true (b && w.doubt) (if b then w.owner else o)
+abbrev put_on : ℕ → Request → Option ℕ → Row → Bool → Row
+put_on at r o w b = row w.number (turn_of r.slot) b (Some r) (if b then w.out else Some r) (if b then w.begun else at) true (b && w.doubt) (if b then w.owner else o)
 
-put_on_is : (n : ℕ) (js : List Event) (r : Request) (s : ℕ) (o : Option ℕ) → is_on r s ≡ true → put_row r o (row_of n js s) ≡ put_on r o (row_of n js s) (has r.xid (out js s))
+put_on_is : (n : ℕ) (js : List Event) (r : Request) (s : ℕ) (o : Option ℕ) → is_on r s ≡ true → put_row (suc (length js)) r o (row_of n js s) ≡ put_on (suc (length js)) r o (row_of n js s) (has r.xid (out js s))
 put_on_is n js r s o e = rw e refl
 
-put_again : (n : ℕ) (js : List Event) (c p : ℕ) (r : Request) (s : ℕ) (o : Option ℕ) → is_on r s ≡ true → knows (outs js s) r.xid ≡ true → is_new js r (slot_number r.slot) ≡ false → put_on r o (row_of n js s) true ≡ row_of n (Put c p r ∷ js) s
+put_again : (n : ℕ) (js : List Event) (c p : ℕ) (r : Request) (s : ℕ) (o : Option ℕ) → is_on r s ≡ true → knows (outs js s) r.xid ≡ true → is_new js r (slot_number r.slot) ≡ false → put_on (suc (length js)) r o (row_of n js s) true ≡ row_of n (Put c p r ∷ js) s
 put_again n js c p r s o e k g =
-    same_row (put_on r o (row_of n js s) true) (row_of n (Put c p r ∷ js) s) refl (rw e refl) (rw (e, k) refl) (rw e refl) (rw (e, k) refl) (rw e refl) (rw (e, k) refl) (sym (owner_again n js c p r s g))
+    same_row (put_on (suc (length js)) r o (row_of n js s) true) (row_of n (Put c p r ∷ js) s) refl (rw e refl) (rw (e, k) refl) (rw e refl) (rw (e, k) refl) (rw (e, k) refl) (rw e refl) (rw (e, k) refl) (sym (owner_again n js c p r s g))
 
-put_new : (n : ℕ) (js : List Event) (c p : ℕ) (r : Request) (s : ℕ) (o : Option ℕ) → is_on r s ≡ true → knows (outs js s) r.xid ≡ false → is_new js r (slot_number r.slot) ≡ true → IsOwner n js r o → put_on r o (row_of n js s) false ≡ row_of n (Put c p r ∷ js) s
+put_new : (n : ℕ) (js : List Event) (c p : ℕ) (r : Request) (s : ℕ) (o : Option ℕ) → is_on r s ≡ true → knows (outs js s) r.xid ≡ false → is_new js r (slot_number r.slot) ≡ true → IsOwner n js r o → put_on (suc (length js)) r o (row_of n js s) false ≡ row_of n (Put c p r ∷ js) s
 put_new n js c p r s o e k g w =
-    same_row (put_on r o (row_of n js s) false) (row_of n (Put c p r ∷ js) s) refl (rw e refl) (rw (e, k) refl) (rw e refl) (rw (e, k) refl) (rw e refl) (rw (e, k) refl) (w g ∙ sym (owner_new n js c p r s g ∙ rw e refl))
+    same_row (put_on (suc (length js)) r o (row_of n js s) false) (row_of n (Put c p r ∷ js) s) refl (rw e refl) (rw (e, k) refl) (rw e refl) (rw (e, k) refl) (rw (e, k) refl) (rw e refl) (rw (e, k) refl) (w g ∙ sym (owner_new n js c p r s g ∙ rw e refl))
 
-put_at : (n : ℕ) (js : List Event) (c p : ℕ) (r : Request) (s : ℕ) (o : Option ℕ) (b : Bool) → has r.xid (out js s) ≡ b → IsLone js s → is_on r s ≡ true → IsOwner n js r o → put_row r o (row_of n js s) ≡ row_of n (Put c p r ∷ js) s
+put_at : (n : ℕ) (js : List Event) (c p : ℕ) (r : Request) (s : ℕ) (o : Option ℕ) (b : Bool) → has r.xid (out js s) ≡ b → IsLone js s → is_on r s ≡ true → IsOwner n js r o → put_row (suc (length js)) r o (row_of n js s) ≡ row_of n (Put c p r ∷ js) s
 put_at n js c p r s o true h l e w =
     let k : knows (outs js s) r.xid ≡ true = rw l h in
     let g : is_new js r (slot_number r.slot) ≡ false = rw (slot_is r.slot s e, k) refl in
@@ -93,11 +93,11 @@ put_at n js c p r s o false h l e w =
     let g : is_new js r (slot_number r.slot) ≡ true = rw (slot_is r.slot s e, k) refl in
     put_on_is n js r s o e ∙ (rw h (put_new n js c p r s o e k g w))
 
-put_by : (n : ℕ) (js : List Event) (c p : ℕ) (r : Request) (s : ℕ) (o : Option ℕ) (b : Bool) → is_on r s ≡ b → IsLone js s → IsOwner n js r o → put_row r o (row_of n js s) ≡ row_of n (Put c p r ∷ js) s
+put_by : (n : ℕ) (js : List Event) (c p : ℕ) (r : Request) (s : ℕ) (o : Option ℕ) (b : Bool) → is_on r s ≡ b → IsLone js s → IsOwner n js r o → put_row (suc (length js)) r o (row_of n js s) ≡ row_of n (Put c p r ∷ js) s
 put_by n js c p r s o true e l w = put_at n js c p r s o (has r.xid (out js s)) refl l e w
 put_by n js c p r s o false e l w = put_other n js c p r s o e
 
-pub put_is : (n : ℕ) (js : List Event) (c p : ℕ) (r : Request) (s : ℕ) (o : Option ℕ) → IsLone js s → IsOwner n js r o → put_row r o (row_of n js s) ≡ row_of n (Put c p r ∷ js) s
+pub put_is : (n : ℕ) (js : List Event) (c p : ℕ) (r : Request) (s : ℕ) (o : Option ℕ) → IsLone js s → IsOwner n js r o → put_row (suc (length js)) r o (row_of n js s) ≡ row_of n (Put c p r ∷ js) s
 put_is n js c p r s o l w = put_by n js c p r s o (is_on r s) refl l w
 
 lone_by : (js : List Event) (c p : ℕ) (r : Request) (s : ℕ) (b : Bool) → is_on r s ≡ b → IsLone js s → (is_on r s ≡ true → IsRoom r (out js s)) → IsLone (Put c p r ∷ js) s
@@ -156,6 +156,7 @@ took_is n js c p y s l =
     (sym (used_took js c p y s (has y.xid (out js s)) k))
     refl refl
     (sym (ap first q ∙ first_of (out_after (is_some (made js y)) (is_final y) (has y.xid (out js s)) (out js s))))
+    refl
     (sym (waits_took js c p y s (has y.xid (out js s)) k))
     refl refl
 

@@ -1,5 +1,5 @@
 -- What each event does to what is kept of a caller is what it does to what the journal says of it.
-use Rattle.std.proofs.Common.{◌≡◌, ℕ, zero, suc, ◌+◌, ◌-◌, ◌≤◌, ◌<◌, ◌==◌, Bool, true, false, List, [], ◌∷◌, length, Option, Some, None, if◌then◌else◌, refl, sym, subst, ◌∙◌, ap, arith, add-one, Less}
+use Rattle.std.proofs.Common.{◌≡◌, ℕ, zero, suc, ◌+◌, ◌-◌, ◌≤◌, ◌<◌, ◌==◌, Bool, true, false, ◌&&◌, List, [], ◌∷◌, length, Option, Some, None, if◌then◌else◌, refl, sym, subst, ◌∙◌, ap, arith, add-one, Less}
 use Rattle.std.proofs.lemmas.Bool.Decides.{nat_tests}
 use Rattle.std.proofs.lemmas.Map.{lookup-none}
 use Rattle.std.proofs.lemmas.Map.Entries.{none_below_head}
@@ -11,44 +11,41 @@ use Rattle.std.specs.Map.{lookup, keys_of}
 use Rattle.std.specs.Ordering.{nat_cmp}
 use Rattle.n41_types.specs.declared.commands.Answer.{Answer}
 use Rattle.n41_types.specs.declared.commands.Command.{Command}
-use Rattle.n41_types.specs.declared.plans.Plan.{Plan}
 use Rattle.n41_types.specs.declared.plans.Request.{Request}
 use Rattle.n41_results.specs.declared.replies.Reply.{Reply}
 use Rattle.n41_journal.specs.declared.events.Event.{Event}
 use Rattle.n41_journal.specs.declared.events.Event.TheVariants.{Began, Put, Took, CbTook, CbPut, Dialed, DialFailed, Broke, Ticked, Answered, Quit}
-use Rattle.n41_model.specs.Requests.{moment, slot_number, request, verdict}
-use Rattle.n41_model.specs.Sessions.{phase, plan_of, session}
-use Rattle.n41_calls.specs.Calls.{began_at, call, chosen, command, in_running, is_caller, is_new, ledger, owner_at, put_call, slot_in, sooner, took_call}
-use Rattle.n41_view.specs.Step.{call_of, wants, with_call}
+use Rattle.n41_model.specs.Requests.{moment, slot_number}
+use Rattle.n41_model.specs.Sessions.{phase}
+use Rattle.n41_calls.specs.Answers.{asker}
+use Rattle.n41_calls.specs.Calls.{began_at, call, chosen, command, files, hour, in_running, is_caller, is_new, is_ready, is_ready_call, ledger, plan_next, put_call, seen, sooner}
+use Rattle.n41_calls.specs.Walks.{is_plan}
 use Rattle.n41_view.specs.View.{seat_of, seat_with}
 use Rattle.n41_view.specs.declared.tables.Seat.{Seat}
-use Rattle.n41_check.specs.Callers.{answered, begun, best_of, blank_seat, caller_of, put, seat_at, sooner_of}
+use Rattle.n41_check.specs.Callers.{Scene, answered, begun, best_of, blank_seat, caller_of, put, replied, scene, seat_at, sooner_of, wants_in}
+use Rattle.n41_check.specs.Rows.{Apart, Row, row_at, row_of}
 use Rattle.n41_check.specs.Rules.{callers}
-use Rattle.n41_check.specs.Shows.{Owns}
+use Rattle.n41_check.specs.Shows.{Owns, now_of, said_of}
+use Rattle.n41_check.proofs.Waiting.{awaits_is}
 use Rattle.n41_check.proofs.Keys.{at_key}
 
 -- ---- steps
 
-began_same : (n : ℕ) (js : List Event) (d k m : ℕ) (a : Command) → seat_of n (Began d k a m ∷ js) d ≡ begun d k a m (length js + 1)
-began_same n js d k m a = let e : (d == d) ≡ true = grind (arith, nat_tests) in rw (e, add-one (length js)) refl
-
-began_by : (n : ℕ) (js : List Event) (d k m : ℕ) (a : Command) (c : ℕ) (b : Bool) → (d == c) ≡ b → seat_of n (Began d k a m ∷ js) c ≡ (if b then begun d k a m (length js + 1) else seat_of n js c)
-began_by n js d k m a c true e =
-    let q : d ≡ c = grind (arith, nat_tests, e) in
-    subst (λ (x : ℕ). seat_of n (Began d k a m ∷ js) x ≡ begun d k a m (length js + 1)) q (began_same n js d k m a)
+began_by : (n : ℕ) (js : List Event) (d k m : ℕ) (a : Command) (c : ℕ) (b : Bool) → (d == c) ≡ b → seat_of n (Began d k a m ∷ js) c ≡ (if b then begun k a m (length js + 1) (seat_of n js c) else seat_of n js c)
+began_by n js d k m a c true e = rw (e, add-one (length js)) refl
 began_by n js d k m a c false e = rw e refl
 
-pub began_is : (n : ℕ) (js : List Event) (d k m : ℕ) (a : Command) (c : ℕ) → seat_of n (Began d k a m ∷ js) c ≡ (if d == c then begun d k a m (length js + 1) else seat_of n js c)
+pub began_is : (n : ℕ) (js : List Event) (d k m : ℕ) (a : Command) (c : ℕ) → seat_of n (Began d k a m ∷ js) c ≡ (if d == c then begun k a m (length js + 1) (seat_of n js c) else seat_of n js c)
 began_is n js d k m a c = began_by n js d k m a c (d == c) refl
 
-answered_by : (n : ℕ) (js : List Event) (d k : ℕ) (a : Answer) (c : ℕ) (b : Bool) → (d == c) ≡ b → seat_of n (Answered d k a ∷ js) c ≡ (if b then answered (seat_of n js c) else seat_of n js c)
+answered_by : (n : ℕ) (js : List Event) (d k : ℕ) (a : Answer) (c : ℕ) (b : Bool) → (d == c) ≡ b → seat_of n (Answered d k a ∷ js) c ≡ (if b then answered a (seat_of n js c) else seat_of n js c)
 answered_by n js d k a c true e = rw e refl
 answered_by n js d k a c false e = rw e refl
 
-pub answered_is : (n : ℕ) (js : List Event) (d k : ℕ) (a : Answer) (c : ℕ) → seat_of n (Answered d k a ∷ js) c ≡ (if d == c then answered (seat_of n js c) else seat_of n js c)
+pub answered_is : (n : ℕ) (js : List Event) (d k : ℕ) (a : Answer) (c : ℕ) → seat_of n (Answered d k a ∷ js) c ≡ (if d == c then answered a (seat_of n js c) else seat_of n js c)
 answered_is n js d k a c = answered_by n js d k a c (d == c) refl
 
-pub call_new : (n : ℕ) (js : List Event) (d p : ℕ) (r : Request) (c : ℕ) → is_new js r (slot_number r.slot) ≡ true → call n (Put d p r ∷ js) c ≡ (if is_caller (in_running (phase js) (chosen js (ledger n js).calls r.plan n)) c then put_call (call n js c) else call n js c)
+pub call_new : (n : ℕ) (js : List Event) (d p : ℕ) (r : Request) (c : ℕ) → is_new js r (slot_number r.slot) ≡ true → call n (Put d p r ∷ js) c ≡ (if is_caller (in_running (phase js) (chosen js (ledger n js) r n)) c then put_call (call n js c) else call n js c)
 call_new n js d p r c e = rw (e, call) refl
 
 pub call_again : (n : ℕ) (js : List Event) (d p : ℕ) (r : Request) (c : ℕ) → is_new js r (slot_number r.slot) ≡ false → call n (Put d p r ∷ js) c ≡ call n js c
@@ -67,16 +64,16 @@ put_is n js d p r o c w =
     let a : seat_of n (Put d p r ∷ js) c ≡ seat_with n js c (call n (Put d p r ∷ js) c) = refl in
     a ∙ (ap (seat_with n js c) (call_put n js d p r o c (is_new js r (slot_number r.slot)) refl w) ∙ put_seat n js c (is_caller o c))
 
--- the request of a caller was answered by this reply
-abbrev pub replied : ℕ → List Event → Reply → Seat → Seat
-replied n js y s = with_call s (took_call (moment js) s.command (plan_of js y) (verdict js y) y (call_of s))
+-- what a reply does to a caller whose request it answers
+abbrev pub told_seat : ℕ → List Event → Reply → ℕ → Seat → Seat
+told_seat n js y c s = replied (hour js (files n js) (call n js c)) (said_of n js y) y s
 
-took_by : (n : ℕ) (js : List Event) (d p : ℕ) (y : Reply) (c : ℕ) (b : Bool) → is_caller (owner_at (ledger n js).owners (slot_in (request js y.xid))) c ≡ b → seat_of n (Took d p y ∷ js) c ≡ (if b then replied n js y (seat_of n js c) else seat_of n js c)
+took_by : (n : ℕ) (js : List Event) (d p : ℕ) (y : Reply) (c : ℕ) (b : Bool) → is_caller (asker n js y) c ≡ b → seat_of n (Took d p y ∷ js) c ≡ (if b then told_seat n js y c (seat_of n js c) else seat_of n js c)
 took_by n js d p y c true e = rw (e, call) refl
 took_by n js d p y c false e = rw (e, call) refl
 
-pub took_is : (n : ℕ) (js : List Event) (d p : ℕ) (y : Reply) (c : ℕ) → seat_of n (Took d p y ∷ js) c ≡ (if is_caller (owner_at (ledger n js).owners (slot_in (request js y.xid))) c then replied n js y (seat_of n js c) else seat_of n js c)
-took_is n js d p y c = took_by n js d p y c (is_caller (owner_at (ledger n js).owners (slot_in (request js y.xid))) c) refl
+pub took_is : (n : ℕ) (js : List Event) (d p : ℕ) (y : Reply) (c : ℕ) → seat_of n (Took d p y ∷ js) c ≡ (if is_caller (asker n js y) c then told_seat n js y c (seat_of n js c) else seat_of n js c)
+took_is n js d p y c = took_by n js d p y c (is_caller (asker n js y) c) refl
 
 -- ---- callers that began nothing
 
@@ -100,20 +97,20 @@ few_none (Quit ∷ js) c l = few_none js c l
 -- ---- the caller that is chosen
 
 -- no caller without a command is chosen
-skip_one : (js : List Event) (p : Plan) (n c : ℕ) → command js c ≡ None → chosen js (ledger n js).calls p (suc c) ≡ chosen js (ledger n js).calls p c
-skip_one js p n c e = rw e refl
+skip_one : (js : List Event) (r : Request) (n c : ℕ) → command js c ≡ None → chosen js (ledger n js) r (suc c) ≡ chosen js (ledger n js) r c
+skip_one js r n c e = rw e refl
 
-skip : (js : List Event) (p : Plan) (n a k : ℕ) → ((c : ℕ) → a ≤ c → c < a + k → command js c ≡ None) → chosen js (ledger n js).calls p (a + k) ≡ chosen js (ledger n js).calls p a
-skip js p n a zero h = ap (chosen js (ledger n js).calls p) (omega arith)
-skip js p n a (suc k) h =
+skip : (js : List Event) (r : Request) (n a k : ℕ) → ((c : ℕ) → a ≤ c → c < a + k → command js c ≡ None) → chosen js (ledger n js) r (a + k) ≡ chosen js (ledger n js) r a
+skip js r n a zero h = ap (chosen js (ledger n js) r) (omega arith)
+skip js r n a (suc k) h =
     let e : a + suc k ≡ suc (a + k) = omega arith in
-    ap (chosen js (ledger n js).calls p) e
-    ∙ (skip_one js p n (a + k) (h (a + k) (omega arith) (omega arith)) ∙ skip js p n a k (λ c l u. h c l (omega arith)))
+    ap (chosen js (ledger n js) r) e
+    ∙ (skip_one js r n (a + k) (h (a + k) (omega arith) (omega arith)) ∙ skip js r n a k (λ c l u. h c l (omega arith)))
 
-skip_to : (js : List Event) (p : Plan) (n a b : ℕ) → a ≤ b → ((c : ℕ) → a ≤ c → c < b → command js c ≡ None) → chosen js (ledger n js).calls p a ≡ chosen js (ledger n js).calls p b
-skip_to js p n a b l h =
+skip_to : (js : List Event) (r : Request) (n a b : ℕ) → a ≤ b → ((c : ℕ) → a ≤ c → c < b → command js c ≡ None) → chosen js (ledger n js) r a ≡ chosen js (ledger n js) r b
+skip_to js r n a b l h =
     let e : a + (b - a) ≡ b = omega arith in
-    sym (skip js p n a (b - a) (λ c u v. h c u (omega arith))) ∙ ap (chosen js (ledger n js).calls p) e
+    sym (skip js r n a (b - a) (λ c u v. h c u (omega arith))) ∙ ap (chosen js (ledger n js) r) e
 
 -- a caller with the place where its command began
 abbrev pair_of : List Event → Option ℕ → Option (ℕ × ℕ)
@@ -131,9 +128,22 @@ sooner_is js (Some d) c = at_test (nat_lt (began_at js c) (began_at js d)) refl 
   at_test true e = rw e refl
   at_test false e = rw e refl
 
-one_more : (n : ℕ) (js : List Event) (p : Plan) (c : ℕ) (o : Option ℕ) (b : Bool) → wants (moment js) (session js) p (seat_of n js c) ≡ b → (if wants (moment js) (session js) p (seat_of n js c) then sooner_of (pair_of js o) c (began_at js c) else pair_of js o) ≡ pair_of js (if wants (moment js) (session js) p (seat_of n js c) then sooner js o c else o)
-one_more n js p c o true e = rw e (sooner_is js o c)
-one_more n js p c o false e = rw e refl
+-- its command can go on, and this request is its next
+abbrev pub wants_next : ℕ → List Event → Request → ℕ → Bool
+wants_next n js r c = is_ready n js c && is_plan (plan_next r.uid n js c) r.plan
+
+-- what is known beside the callers tells of each whether it wants the request
+abbrev pub Sees : ℕ → List Event → Scene → Request → Type 0
+Sees n js w r = (c : ℕ) → wants_in w r (seat_of n js c) ≡ wants_next n js r c
+
+pub sees : (n : ℕ) (js : List Event) (ws : List Row) (r : Request) → Apart ws → ((m : ℕ) → row_at ws m ≡ row_of n js m) → Sees n js (scene (now_of js) ws (files n js)) r
+sees n js ws r a h c =
+    ap (λ (b : Bool). is_ready_call (moment js) (command js c) b (call n js c) && is_plan (plan_next r.uid n js c) r.plan)
+    (awaits_is n js ws (call n js c).way.stale (seen n js c) a h)
+
+one_more : (n : ℕ) (js : List Event) (r : Request) (c : ℕ) (o : Option ℕ) (x b : Bool) → x ≡ wants_next n js r c → wants_next n js r c ≡ b → (if x then sooner_of (pair_of js o) c (began_at js c) else pair_of js o) ≡ pair_of js (if wants_next n js r c then sooner js o c else o)
+one_more n js r c o x true h e = rw (h, e) (sooner_is js o c)
+one_more n js r c o x false h e = rw (h, e) refl
 
 -- from this caller on, the entries tell of each what the journal says
 abbrev pub Tells : ℕ → List Event → ℕ → List (ℕ × Seat) → Type 0
@@ -183,35 +193,38 @@ rest_tells n js lo e es t l c u =
     let v : lo ≤ c = omega arith in
     rw h at (t c v)
 
-folded_end : (n : ℕ) (js : List Event) (p : Plan) (lo m : ℕ) (b : Bool) → nat_lt lo m ≡ b → Tells n js lo [] → ((c : ℕ) → m ≤ c → command js c ≡ None) → chosen js (ledger n js).calls p lo ≡ chosen js (ledger n js).calls p m
-folded_end n js p lo m true e t h = skip_to js p n lo m (grind (arith, nat_tests, e)) (λ c l u. below_none n js lo [] c t l refl)
-folded_end n js p lo m false e t h = sym (skip_to js p n m lo (grind (arith, nat_tests, e)) (λ c l u. h c l))
+folded_end : (n : ℕ) (js : List Event) (r : Request) (lo m : ℕ) (b : Bool) → nat_lt lo m ≡ b → Tells n js lo [] → ((c : ℕ) → m ≤ c → command js c ≡ None) → chosen js (ledger n js) r lo ≡ chosen js (ledger n js) r m
+folded_end n js r lo m true e t h = skip_to js r n lo m (grind (arith, nat_tests, e)) (λ c l u. below_none n js lo [] c t l refl)
+folded_end n js r lo m false e t h = sym (skip_to js r n m lo (grind (arith, nat_tests, e)) (λ c l u. h c l))
 
-wanted : (n : ℕ) (js : List Event) (p : Plan) (c : ℕ) → chosen js (ledger n js).calls p (suc c) ≡ (if wants (moment js) (session js) p (seat_of n js c) then sooner js (chosen js (ledger n js).calls p c) c else chosen js (ledger n js).calls p c)
-wanted n js p c = refl
+wanted : (n : ℕ) (js : List Event) (r : Request) (c : ℕ) → chosen js (ledger n js) r (suc c) ≡ (if wants_next n js r c then sooner js (chosen js (ledger n js) r c) c else chosen js (ledger n js) r c)
+wanted n js r c = refl
 
-folded_one : (n : ℕ) (js : List Event) (p : Plan) (lo : ℕ) (e : ℕ × Seat) (es : List (ℕ × Seat)) → IsStrictlySortedBy nat_cmp (keys_of (e ∷ es)) → lo ≤ e.0 → Tells n js lo (e ∷ es) → (if wants (moment js) (session js) p e.1 then sooner_of (pair_of js (chosen js (ledger n js).calls p lo)) e.0 e.1.began_at else pair_of js (chosen js (ledger n js).calls p lo)) ≡ pair_of js (chosen js (ledger n js).calls p (suc e.0))
-folded_one n js p lo e es s l t =
-    let a : chosen js (ledger n js).calls p lo ≡ chosen js (ledger n js).calls p e.0 = skip_to js p n lo e.0 l (λ c u v. below_none n js lo (e ∷ es) c t u (absent_before e es c s v)) in
+-- the best so far, and this caller where it wants the request
+abbrev pub better : Scene → Request → ℕ → Option (ℕ × ℕ) → Seat → Option (ℕ × ℕ)
+better w r c best s = if wants_in w r s then sooner_of best c s.began_at else best
+
+folded_one : (n : ℕ) (js : List Event) (w : Scene) (r : Request) (lo : ℕ) (e : ℕ × Seat) (es : List (ℕ × Seat)) → Sees n js w r → IsStrictlySortedBy nat_cmp (keys_of (e ∷ es)) → lo ≤ e.0 → Tells n js lo (e ∷ es) → better w r e.0 (pair_of js (chosen js (ledger n js) r lo)) e.1 ≡ pair_of js (chosen js (ledger n js) r (suc e.0))
+folded_one n js w r lo e es v s l t =
+    let a : chosen js (ledger n js) r lo ≡ chosen js (ledger n js) r e.0 = skip_to js r n lo e.0 l (λ c u x. below_none n js lo (e ∷ es) c t u (absent_before e es c s x)) in
     let b : e.1 ≡ seat_of n js e.0 = head_tells n js lo e es t l in
-    let g = λ (z : Seat) (o : Option ℕ). if wants (moment js) (session js) p z then sooner_of (pair_of js o) e.0 z.began_at else pair_of js o in
-    ap (λ (z : Seat). g z (chosen js (ledger n js).calls p lo)) b
-    ∙ (ap (g (seat_of n js e.0)) a
-    ∙ (one_more n js p e.0 (chosen js (ledger n js).calls p e.0) (wants (moment js) (session js) p (seat_of n js e.0)) refl
-    ∙ ap (pair_of js) (sym (wanted n js p e.0))))
+    ap (better w r e.0 (pair_of js (chosen js (ledger n js) r lo))) b
+    ∙ (ap (λ (o : Option ℕ). better w r e.0 (pair_of js o) (seat_of n js e.0)) a
+    ∙ (one_more n js r e.0 (chosen js (ledger n js) r e.0) (wants_in w r (seat_of n js e.0)) (wants_next n js r e.0) (v e.0) refl
+    ∙ ap (pair_of js) (sym (wanted n js r e.0))))
 
-folded : (n : ℕ) (js : List Event) (p : Plan) (m lo : ℕ) (es : List (ℕ × Seat)) → IsStrictlySortedBy nat_cmp (keys_of es) → HeadFrom lo es → Tells n js lo es → ((c : ℕ) → m ≤ c → command js c ≡ None) → best_of (moment js) (session js) p (pair_of js (chosen js (ledger n js).calls p lo)) es ≡ pair_of js (chosen js (ledger n js).calls p m)
-folded n js p m lo [] s l t h = ap (pair_of js) (folded_end n js p lo m (nat_lt lo m) refl t h)
-folded n js p m lo (e ∷ es) s l t h =
-    ap (λ (o : Option (ℕ × ℕ)). best_of (moment js) (session js) p o es) (folded_one n js p lo e es s l t)
-    ∙ folded n js p m (suc e.0) es (sorted_rest e es s) (head_next e es s) (rest_tells n js lo e es t l) h
+folded : (n : ℕ) (js : List Event) (w : Scene) (r : Request) (m lo : ℕ) (es : List (ℕ × Seat)) → Sees n js w r → IsStrictlySortedBy nat_cmp (keys_of es) → HeadFrom lo es → Tells n js lo es → ((c : ℕ) → m ≤ c → command js c ≡ None) → best_of w r (pair_of js (chosen js (ledger n js) r lo)) es ≡ pair_of js (chosen js (ledger n js) r m)
+folded n js w r m lo [] v s l t h = ap (pair_of js) (folded_end n js r lo m (nat_lt lo m) refl t h)
+folded n js w r m lo (e ∷ es) v s l t h =
+    ap (λ (o : Option (ℕ × ℕ)). best_of w r o es) (folded_one n js w r lo e es v s l t)
+    ∙ folded n js w r m (suc e.0) es v (sorted_rest e es s) (head_next e es s) (rest_tells n js lo e es t l) h
 
 head_zero : (es : List (ℕ × Seat)) → HeadFrom 0 es
 head_zero [] = tt
 head_zero (e ∷ es) = omega arith
 
 -- the caller that is chosen among what is kept is the one that the journal tells, where there are at least as many callers as began
-pub chosen_is : (n : ℕ) (js : List Event) (p : Plan) (m : BTreeMap ℕ Seat) → IsOrdered nat_cmp m → callers js ≤ n → ((c : ℕ) → seat_at m c ≡ seat_of n js c) → caller_of (best_of (moment js) (session js) p None m.entries) ≡ chosen js (ledger n js).calls p n
-chosen_is n js p m s l h =
-    ap caller_of (folded n js p n 0 m.entries s (head_zero m.entries) (λ c _. h c) (λ c u. few_none js c (omega arith)))
-    ∙ pair_caller js (chosen js (ledger n js).calls p n)
+pub chosen_is : (n : ℕ) (js : List Event) (w : Scene) (r : Request) (m : BTreeMap ℕ Seat) → Sees n js w r → IsOrdered nat_cmp m → callers js ≤ n → ((c : ℕ) → seat_at m c ≡ seat_of n js c) → caller_of (best_of w r None m.entries) ≡ chosen js (ledger n js) r n
+chosen_is n js w r m v s l h =
+    ap caller_of (folded n js w r n 0 m.entries v s (head_zero m.entries) (λ c _. h c) (λ c u. few_none js c (omega arith)))
+    ∙ pair_caller js (chosen js (ledger n js) r n)

@@ -25,7 +25,7 @@ pub record Knows (n : ℕ) (js : List Event) (q : Requests) : Type 0 where
 
 -- whose a request is that is put, where it is new
 abbrev pub IsOwner : ℕ → List Event → Request → Option ℕ → Type 0
-IsOwner n js r o = is_new js r (slot_number r.slot) ≡ true → o ≡ in_running (phase js) (chosen js (ledger n js).calls r.plan n)
+IsOwner n js r o = is_new js r (slot_number r.slot) ≡ true → o ≡ in_running (phase js) (chosen js (ledger n js) r n)
 
 -- which rule the event breaks first after these, if any
 abbrev pub Finds : ℕ → List Event → Event → Option Rule → Type 0

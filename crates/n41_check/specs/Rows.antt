@@ -1,5 +1,5 @@
 -- What is kept of each slot, and how an event moves it.
-use Rattle.std.specs.Prelude.{◌≡◌, ℕ, ◌+◌, ◌-◌, ◌==◌, Bool, true, false, ◌&&◌, ◌||◌, not, List, [], ◌∷◌, ◌++◌, map, Option, Some, None, if◌then◌else◌, option_copied, option_to_list, is_some, nat_lt}
+use Rattle.std.specs.Prelude.{◌≡◌, ℕ, suc, ◌+◌, ◌-◌, ◌==◌, Bool, true, false, ◌&&◌, ◌||◌, not, List, [], ◌∷◌, ◌++◌, map, Option, Some, None, if◌then◌else◌, option_copied, option_to_list, is_some, nat_lt}
 use Rattle.std.specs.List.{list_any}
 use Rattle.n41_types.specs.declared.plans.Request.{Request}
 use Rattle.n41_types.specs.declared.plans.SlotUse.{SlotUse}
@@ -8,8 +8,10 @@ use Rattle.n41_types.specs.Plans.{class_of}
 use Rattle.n41_results.specs.declared.replies.Reply.{Reply}
 use Rattle.n41_journal.specs.declared.events.Event.{Event}
 use Rattle.n41_model.specs.Replies.{is_final, gives_back}
-use Rattle.n41_model.specs.Requests.{is_on, is_waiting, knows, turn_of, out, used, retried, sent, doubt}
-use Rattle.n41_calls.specs.Calls.{is_caller, owner}
+use Rattle.n41_model.specs.Requests.{is_on, is_waiting, knows, turn_of, out, used, retried, sent, begun, doubt}
+use Rattle.n41_model.specs.declared.words.Stale.{Stale}
+use Rattle.n41_calls.specs.Walks.{Seen, opener}
+use Rattle.n41_calls.specs.Calls.{is_caller, opens_on, owner, owner_seen}
 use Rattle.n41_view.specs.Causes.{is_changing}
 use Rattle.n41_check.specs.Rules.{last_put}
 use Rattle.n41_check.specs.declared.rules.Rule.{Rule}
@@ -27,6 +29,7 @@ pub record Row : Type 0 where
   pub retried : Bool
   pub last : Option Request
   pub out : Option Request
+  pub begun : ℕ
   pub waits : Bool
   pub doubt : Bool
   pub owner : Option ℕ
@@ -39,6 +42,7 @@ row_of n js s = record {
   retried = retried js s;
   last = last_put js s;
   out = out js s;
+  begun = begun js s;
   waits = is_waiting (sent js s);
   doubt = doubt js s;
   owner = owner n js s;
@@ -46,7 +50,7 @@ row_of n js s = record {
 
 -- a slot on which nothing was put
 abbrev pub blank : ℕ → Row
-blank s = record { number = s; used = 0; retried = false; last = None; out = None; waits = false; doubt = false; owner = None }
+blank s = record { number = s; used = 0; retried = false; last = None; out = None; begun = 0; waits = false; doubt = false; owner = None }
 
 abbrev pub row_in : Slot → Row
 row_in s = record {
@@ -55,6 +59,7 @@ row_in s = record {
   retried = s.retried;
   last = option_copied s.last;
   out = option_copied s.out;
+  begun = s.begun;
   waits = s.waits;
   doubt = s.doubt;
   owner = s.owner;
@@ -85,9 +90,9 @@ with_row s ws = if is_there ws s then ws else ws ++ blank s ∷ []
 
 -- ---- steps
 
--- a request is put on its slot; where it is new it is this caller's
-abbrev pub put_row : Request → Option ℕ → Row → Row
-put_row r o w =
+-- a request is put on its slot, at this place; where it is new it is this caller's
+abbrev pub put_row : ℕ → Request → Option ℕ → Row → Row
+put_row at r o w =
     if is_on r w.number
     then record {
       number = w.number;
@@ -95,6 +100,7 @@ put_row r o w =
       retried = has r.xid w.out;
       last = Some r;
       out = if has r.xid w.out then w.out else Some r;
+      begun = if has r.xid w.out then w.begun else at;
       waits = true;
       doubt = has r.xid w.out && w.doubt;
       owner = if has r.xid w.out then w.owner else o;
@@ -109,6 +115,7 @@ took_row made y w = record {
   retried = w.retried;
   last = if made then None else w.last;
   out = if made then None else if is_final y && has y.xid w.out then None else w.out;
+  begun = w.begun;
   waits = not (has y.xid w.out) && w.waits;
   doubt = w.doubt;
   owner = w.owner;
@@ -119,6 +126,24 @@ dialed_row w = record w { waits = false }
 
 abbrev pub broke_row : Row → Row
 broke_row w = record w { waits = false; doubt = w.doubt || w.waits }
+
+-- ---- opens that are out
+
+-- an open by this owner is out that was put anew up to this place, on one of so many slots
+abbrev pub opens_by : List ℕ → ℕ → ℕ → Row → Bool
+opens_by o p k w = nat_lt w.number k && opens_on o p w.begun w.out
+
+abbrev pub open_by : List ℕ → ℕ → ℕ → List Row → Bool
+open_by o p k ws = list_any (opens_by o p k) ws
+
+-- a close waits for the opens of its owner that were out when it was told that its stateid is outdated
+abbrev pub awaits_by : ℕ → List Row → Option Stale → Option Seen → Bool
+awaits_by k ws (Some t) (Some s) = open_by (opener s) t.place k ws
+awaits_by k ws t s = false
+
+-- what a close goes by that is told so now, behind so many events
+abbrev pub stale_by : ℕ → ℕ → List Row → Option Seen → Stale
+stale_by at k ws s = record { place = suc at; alone = not (open_by (owner_seen s) at k ws) }
 
 -- ---- causes
 

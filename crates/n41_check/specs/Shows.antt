@@ -7,20 +7,19 @@ use Rattle.n41_types.specs.declared.plans.Request.{Request}
 use Rattle.n41_results.specs.declared.replies.Reply.{Reply}
 use Rattle.n41_journal.specs.declared.events.Event.{Event}
 use Rattle.n41_model.specs.Requests.{moment, heard, rounds, request, bare_verdict, verdict, slot_number}
-use Rattle.n41_model.specs.Sessions.{phase, phases, session, client, plan_of}
-use Rattle.n41_calls.specs.Calls.{owner_at, ledger, slot_in, is_new, in_running, chosen}
-use Rattle.n41_view.specs.Causes.{given_in}
+use Rattle.n41_model.specs.Sessions.{phase, phases, session, sessions, client, plan_of, slots}
+use Rattle.n41_calls.specs.Calls.{owner_at, ledger, files, slot_in, is_new, in_running, chosen}
 use Rattle.n41_view.specs.Step.{Said}
 use Rattle.n41_view.specs.View.{seat_of}
 use Rattle.n41_check.specs.Asked.{Knows}
-use Rattle.n41_check.specs.Callers.{seat_at}
+use Rattle.n41_check.specs.Callers.{Scene, given_at, scene, seat_at}
 use Rattle.n41_check.specs.Rows.{is_doubted, rows}
 use Rattle.n41_check.specs.Rules.{callers, Keeps}
 use Rattle.n41_check.specs.declared.rules.Rule.TheVariants.{Slots}
 use Rattle.n41_check.specs.declared.machine.Machine.{Machine}
 use Rattle.n41_check.specs.declared.now.Now.{Now}
 
--- moments, rounds, phases and sessions; sixteen rounds stand for any more
+-- moments, rounds, phases, sessions and their slots; sixteen rounds stand for any more
 abbrev pub now_of : List Event → Now
 now_of js = record {
   moment = moment js;
@@ -29,6 +28,8 @@ now_of js = record {
   phase = (phases js).0;
   work = (phases js).1;
   session = session js;
+  sessions = sessions js;
+  slots = slots js;
   client = client js;
 }
 
@@ -43,7 +44,7 @@ said_of n js y = record {
 
 -- whose a request is that is put: of a caller where it is new, and of none where it goes again
 pub record Owns (n : ℕ) (js : List Event) (r : Request) (o : Option ℕ) : Type 0 where
-  pub new : is_new js r (slot_number r.slot) ≡ true → o ≡ in_running (phase js) (chosen js (ledger n js).calls r.plan n)
+  pub new : is_new js r (slot_number r.slot) ≡ true → o ≡ in_running (phase js) (chosen js (ledger n js) r n)
   pub again : is_new js r (slot_number r.slot) ≡ false → o ≡ None
 
 -- The machine has what a journal says, where there are so many callers, at least as many as began a command.
@@ -53,10 +54,17 @@ pub record Shows (n : ℕ) (js : List Event) (m : Machine) : Type 0 where
   pub facts : m.facts ≡ now_of js
   pub requests : Knows n js m.requests
   pub seats : (c : ℕ) → seat_at m.seats c ≡ seat_of n js c
+  pub files : m.files ≡ files n js
 
--- no caller has tried more often than there are events
-abbrev pub IsTried : Machine → Type 0
-IsTried m = (c : ℕ) → (seat_at m.seats c).attempts ≤ m.count
+-- what is known beside the callers
+abbrev pub scene_in : Machine → Scene
+scene_in m = scene m.facts (rows m.requests.slots.items) m.files
+
+-- nothing was counted more often than there are events: no caller's attempts, no sessions, no handles
+pub record IsCounted (m : Machine) : Type 0 where
+  pub tried : (c : ℕ) → (seat_at m.seats c).attempts ≤ m.count
+  pub sessions : m.facts.sessions ≤ m.count
+  pub opened : m.files.opened ≤ m.count
 
 -- where an event leaves at most one request on each slot, the machine that had what a journal says has what the journal with the event says
 abbrev pub Moves : Machine → Event → Machine → Type 0
@@ -72,5 +80,5 @@ unknown_in m c = nat_le 16 m.facts.quiet && (seat_at m.seats c).busy && list_any
 abbrev pub caused_in : Machine → ℕ → Answer → Bool
 caused_in m c answer.Unknown = unknown_in m c
 caused_in m c (answer.Unreachable k) =
-    (k == 16) && nat_le 16 m.facts.quiet && is_none (given_in m.facts.moment (seat_at m.seats c)) && not (unknown_in m c)
+    (k == 16) && nat_le 16 m.facts.quiet && is_none (given_at m.facts.moment m.files (seat_at m.seats c)) && not (unknown_in m c)
 caused_in m c a = true

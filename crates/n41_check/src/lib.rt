@@ -2,9 +2,13 @@
 #![tactic(auto)]
 
 mod callers;
+mod choice;
+mod labels;
 mod laws;
 mod machine;
 mod now;
+mod opens;
+mod replies;
 mod requests;
 mod rules;
 mod slots;

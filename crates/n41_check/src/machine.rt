@@ -1,7 +1,6 @@
 ghost use Rattle.std.specs.Prelude.{◌≡◌, ◌∷◌, ◌+◌, ◌<◌, ◌≤◌, ◌^◌, ℕ, [], List, OnOk, nat_le, option_copied};
 ghost use Rattle.std.specs.Bool.{Decides};
 ghost use Rattle.n41_journal.specs.declared.events.Event.{Event};
-ghost use Rattle.n41_types.specs.declared.commands.Answer.{Answer};
 ghost use Rattle.n41_journal.specs.declared.events.Cause.{Cause};
 ghost use Rattle.n41_journal.specs.declared.events.Event.TheVariants.{Began, Put, Took, Dialed, DialFailed, Broke, Ticked, Answered};
 ghost use Rattle.n41_calls.specs.Answers.{round_limit};
@@ -11,13 +10,16 @@ ghost use Rattle.n41_check.specs.Rows.{row_in, row_of};
 ghost use Rattle.n41_check.specs.Rules.{Keeps};
 ghost use Rattle.n41_check.specs.declared.rules.Rule.TheVariants as rule;
 ghost use Rattle.n41_check.specs.Asked.{Finds};
-ghost use Rattle.n41_check.specs.Shows.{Shows, IsTried, Moves, Owns, said_of, unknown_in, caused_in};
+ghost use Rattle.n41_check.specs.Shows.{Shows, IsCounted, Moves, Owns, said_of, unknown_in, caused_in};
 
 use crate::callers::{self, Seats};
+use crate::choice::chosen;
 use crate::now::Now;
+use crate::replies;
 use crate::requests::Requests;
 use crate::rules::Rule;
 use crate::slots::{Slot, any_doubted};
+use n41_files::Files;
 use n41_journal::Event;
 use n41_model::{BareVerdict, Phase};
 use n41_results::Reply;
@@ -34,6 +36,8 @@ pub struct Machine<'a> {
     pub(crate) facts: Now,
     pub(crate) requests: Requests<'a>,
     pub(crate) seats: Seats,
+    /// The handles that the callers have.
+    pub(crate) files: Files,
 }
 
 /// What a reply does to the request that it answers, where that has no slot.
@@ -56,6 +60,7 @@ impl<'a> Machine<'a> {
             facts: Now::new(),
             requests: Requests::new(alloc),
             seats: BTreeMap::new(alloc),
+            files: Files::new(alloc),
         }
     }
 
@@ -67,9 +72,13 @@ impl<'a> Machine<'a> {
             return None;
         }
         match self.facts.phase {
-            Phase::Running => {
-                callers::chosen(self.facts.moment, self.facts.session, request, &self.seats)
-            }
+            Phase::Running => chosen(
+                &self.facts,
+                &self.requests.slots,
+                &self.files,
+                request,
+                &self.seats,
+            ),
             _ => None,
         }
     }
@@ -136,6 +145,7 @@ impl<'a> Machine<'a> {
             command,
             moment,
             place,
+            &mut self.files,
             &mut self.seats,
         )?;
         self.count = place;
@@ -143,25 +153,36 @@ impl<'a> Machine<'a> {
     }
 
     /// A request was put that leaves at most one on each slot.
-    fn put(&mut self, request: &'a Request) -> Result<(), NoMemory>
+    fn put(&mut self, alloc: Global, request: &'a Request) -> Result<(), NoMemory>
         requires room { self.old.count + 1 < 2 ^ 64 }
-        requires tried { IsTried self.old }
+        requires counted { IsCounted self.old }
         ensures { OnOk result ((n : ℕ) (js : List Event) (c p : ℕ) → Shows n js self.old → Keeps n js (Put c p request.now) rule.Slots → Shows n (Put c p request.now ∷ js) self.new) }
     {
         let owner = self.owner(request);
-        callers::put(owner, &mut self.seats)?;
-        self.requests.put(request, owner)?;
-        self.count += 1;
+        let place = self.count + 1;
+        callers::put(alloc, owner, &mut self.seats)?;
+        self.requests.put(place, request, owner)?;
+        self.count = place;
         Ok(())
     }
 
     /// A reply was taken.
     pub fn took(&mut self, alloc: Global, reply: &Reply) -> Result<(), NoMemory>
-        requires { self.old.count + 1 < 2 ^ 64 }
+        requires room { self.old.count + 1 < 2 ^ 64 }
+        requires counted { IsCounted self.old }
         ensures { OnOk result ((n : ℕ) (js : List Event) (c p : ℕ) → Shows n js self.old → Shows n (Took c p reply.now ∷ js) self.new) }
     {
         let said = self.said(reply);
-        callers::took(alloc, self.facts.moment, &said, reply, &mut self.seats)?;
+        replies::took(
+            alloc,
+            self.count,
+            &self.facts,
+            &self.requests.slots,
+            &said,
+            reply,
+            &mut self.files,
+            &mut self.seats,
+        )?;
         self.requests.took(said.made().is_some(), reply);
         self.facts.took(&said);
         self.count += 1;
@@ -206,12 +227,12 @@ impl<'a> Machine<'a> {
         self.count += 1;
     }
 
-    /// A command of a caller was answered.
-    fn answered(&mut self, caller: u32) -> Result<(), NoMemory>
+    /// A command of a caller was answered so.
+    fn answered(&mut self, alloc: Global, caller: u32, answer: &Answer) -> Result<(), NoMemory>
         requires { self.old.count + 1 < 2 ^ 64 }
-        ensures { OnOk result ((n : ℕ) (js : List Event) (k : ℕ) (a : Answer) → Shows n js self.old → Shows n (Answered caller k a ∷ js) self.new) }
+        ensures { OnOk result ((n : ℕ) (js : List Event) (k : ℕ) → Shows n js self.old → Shows n (Answered caller k answer.now ∷ js) self.new) }
     {
-        callers::answered(caller, &mut self.seats)?;
+        callers::answered(alloc, caller, answer, &mut self.files, &mut self.seats)?;
         self.count += 1;
         Ok(())
     }
@@ -219,7 +240,7 @@ impl<'a> Machine<'a> {
     /// What is known once this event happened, which leaves at most one request on each slot.
     pub fn step(&mut self, alloc: Global, event: &'a Event) -> Result<(), NoMemory>
         requires room { self.old.count + 1 < 2 ^ 64 }
-        requires tried { IsTried self.old }
+        requires counted { IsCounted self.old }
         ensures { OnOk result (Moves self.old event.now self.new) }
     {
         match event {
@@ -229,9 +250,11 @@ impl<'a> Machine<'a> {
                 command,
                 moment,
             } => return self.began(alloc, *caller, *number, command, *moment),
-            Event::Put { request, .. } => return self.put(request),
+            Event::Put { request, .. } => return self.put(alloc, request),
             Event::Took { reply, .. } => return self.took(alloc, reply),
-            Event::Answered { caller, .. } => return self.answered(*caller),
+            Event::Answered { caller, answer, .. } => {
+                return self.answered(alloc, *caller, answer);
+            }
             Event::Dialed { .. } => self.dialed(),
             Event::DialFailed => self.dial_failed(),
             Event::Broke { .. } => self.broke(),
@@ -266,7 +289,7 @@ impl<'a> Machine<'a> {
             Answer::Unreachable(count) => {
                 *count == 16
                     && self.has_ended()
-                    && !callers::is_given(self.facts.moment, caller, &self.seats)
+                    && !callers::is_given(self.facts.moment, &self.files, caller, &self.seats)
                     && !self.is_unknown(caller)
             }
             _ => true,

@@ -1,4 +1,4 @@
-ghost use Rattle.std.specs.Prelude.{◌≡◌, ◌∷◌, ℕ, [], List};
+ghost use Rattle.std.specs.Prelude.{◌≡◌, ◌∷◌, ◌+◌, ◌<◌, ◌^◌, ℕ, suc, [], List, is_some, if◌then◌else◌};
 ghost use Rattle.n41_results.specs.declared.replies.Reply.{Reply};
 ghost use Rattle.n41_journal.specs.declared.events.Cause.{Cause};
 ghost use Rattle.n41_journal.specs.declared.events.Event.{Event};
@@ -7,9 +7,11 @@ ghost use Rattle.n41_check.specs.Shows.{now_of, said_of};
 
 use n41_model::{KnownClient, Phase};
 use n41_results::SessionMade;
-use n41_said::{Said, broke_phase, client_after, dialed_phase, reply_phase, session_after, worked};
+use n41_said::{
+    Said, broke_phase, client_after, dialed_phase, reply_phase, session_after, slots_after, worked,
+};
 
-/// What is known of moments, rounds, phases and sessions. Moments are in seconds.
+/// What is known of moments, rounds, phases, sessions and their slots. Moments are in seconds.
 #[derive(Clone, Copy)]
 pub(crate) struct Now {
     pub(crate) moment: u64,
@@ -21,7 +23,22 @@ pub(crate) struct Now {
     /// The last phase that was neither Down nor Binding.
     pub(crate) work: Phase,
     pub(crate) session: Option<SessionMade>,
+    /// How many sessions were made.
+    pub(crate) sessions: u64,
+    /// How many slots the last session has, 64 at most.
+    pub(crate) slots: u32,
     pub(crate) client: Option<KnownClient>,
+}
+
+/// How many sessions were made, once this one was.
+fn sessions_after(made: Option<SessionMade>, sessions: u64) -> u64
+    requires { sessions + 1 < 2 ^ 64 }
+    ensures { result ≡ (if is_some made then suc sessions else sessions) }
+{
+    match made {
+        None => sessions,
+        Some(_) => sessions + 1,
+    }
 }
 
 impl Now {
@@ -36,6 +53,8 @@ impl Now {
             phase: Phase::Down,
             work: Phase::ClientId,
             session: None,
+            sessions: 0,
+            slots: 0,
             client: None,
         }
     }
@@ -80,14 +99,18 @@ impl Now {
 
     /// A reply was taken that says this.
     pub(crate) fn took(&mut self, said: &Said)
+        requires { self.old.sessions + 1 < 2 ^ 64 }
         ensures { (n : ℕ) (js : List Event) (c p : ℕ) (y : Reply) → self.old ≡ now_of js → said.now ≡ said_of n js y → self.new ≡ now_of (Took c p y ∷ js) }
     {
         let phase = reply_phase(said, self.phase, self.work);
+        let made = said.made();
         self.heard = true;
         self.quiet = 0;
         self.work = worked(phase, self.work);
         self.phase = phase;
         self.session = session_after(said.bare, self.session);
+        self.sessions = sessions_after(made, self.sessions);
+        self.slots = slots_after(made, self.slots);
         self.client = client_after(said.bare, self.client);
     }
 }

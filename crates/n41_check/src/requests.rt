@@ -1,4 +1,4 @@
-ghost use Rattle.std.specs.Prelude.{◌≡◌, ◌∷◌, ◌==◌, ◌&&◌, ℕ, [], List, OnOk, Option, option_copied, is_some};
+ghost use Rattle.std.specs.Prelude.{◌≡◌, ◌∷◌, ◌==◌, ◌&&◌, ℕ, suc, [], List, length, OnOk, Option, option_copied, is_some};
 ghost use Rattle.n41_journal.specs.declared.events.Cause.{Cause};
 ghost use Rattle.n41_journal.specs.declared.events.Event.{Event};
 ghost use Rattle.n41_journal.specs.declared.events.Event.TheVariants.{Put, Took, Dialed, Broke};
@@ -119,13 +119,18 @@ impl<'a> Requests<'a> {
         }
     }
 
-    /// A request is put; where it is new it is this caller's.
-    pub(crate) fn put(&mut self, request: &'a Request, owner: Option<u32>) -> Result<(), NoMemory>
-        ensures { OnOk result ((n : ℕ) (js : List Event) (c p : ℕ) → Knows n js self.old → Keeps n js (Put c p request.now) rule.Slots → IsOwner n js request.now owner → Knows n (Put c p request.now ∷ js) self.new) }
+    /// A request is put at this place, counted from 1; where it is new it is this caller's.
+    pub(crate) fn put(
+        &mut self,
+        place: u64,
+        request: &'a Request,
+        owner: Option<u32>,
+    ) -> Result<(), NoMemory>
+        ensures { OnOk result ((n : ℕ) (js : List Event) (c p : ℕ) → place ≡ suc (length js) → Knows n js self.old → Keeps n js (Put c p request.now) rule.Slots → IsOwner n js request.now owner → Knows n (Put c p request.now ∷ js) self.new) }
     {
         self.by_xid.insert(request.xid, request)?;
-        if let Some(place) = request.slot {
-            slots::put(request, place.slot, owner, &mut self.slots)?;
+        if let Some(used) = request.slot {
+            slots::put(place, request, used.slot, owner, &mut self.slots)?;
         }
         Ok(())
     }

@@ -20,6 +20,8 @@ pub struct Slot<'a> {
     pub last: Option<&'a Request>,
     /// The request that is out.
     pub out: Option<&'a Request>,
+    /// The place of the event by which the last new request on it was put.
+    pub begun: u64,
     /// Its last Put has no reply, on the connection that stands.
     pub waits: bool,
     /// A connection broke while it was unanswered.
@@ -38,6 +40,7 @@ fn blank<'a>(number: u32) -> Slot<'a>
         retried: false,
         last: None,
         out: None,
+        begun: 0,
         waits: false,
         doubt: false,
         owner: None,
@@ -108,9 +111,9 @@ fn turn_of(request: &Request) -> u32
     }
 }
 
-/// A request is put, maybe on this slot; where it is new it is this caller's.
-fn put_slot<'a>(request: &'a Request, owner: Option<u32>, slot: &mut Slot<'a>)
-    ensures { row_in slot.new ≡ put_row request.now owner (row_in slot.old) }
+/// A request is put at this place, maybe on this slot; where it is new it is this caller's.
+fn put_slot<'a>(place: u64, request: &'a Request, owner: Option<u32>, slot: &mut Slot<'a>)
+    ensures { row_in slot.new ≡ put_row place request.now owner (row_in slot.old) }
 {
     if !is_on(request, slot.number) {
         return;
@@ -121,31 +124,33 @@ fn put_slot<'a>(request: &'a Request, owner: Option<u32>, slot: &mut Slot<'a>)
     slot.retried = has(request.xid, slot.out);
     if !slot.retried {
         slot.out = Some(request);
+        slot.begun = place;
         slot.doubt = false;
         slot.owner = owner;
     }
 }
 
 /// The same of each slot.
-fn put_slots<'a>(request: &'a Request, owner: Option<u32>, slots: &mut [Slot<'a>])
-    ensures { rows slots.new ≡ map (put_row request.now owner) (rows slots.old) }
+fn put_slots<'a>(place: u64, request: &'a Request, owner: Option<u32>, slots: &mut [Slot<'a>])
+    ensures { rows slots.new ≡ map (put_row place request.now owner) (rows slots.old) }
 {
     for slot in slots.iter_mut() {
-        put_slot(request, owner, slot);
+        put_slot(place, request, owner, slot);
     }
 }
 
-/// A request is put on a slot.
+/// A request is put on a slot, at this place.
 pub(crate) fn put<'a>(
+    place: u64,
     request: &'a Request,
     number: u32,
     owner: Option<u32>,
     slots: &mut Vec<Slot<'a>>,
 ) -> Result<(), NoMemory>
-    ensures { OnOk result (rows slots.new.items ≡ map (put_row request.now owner) (with_row number (rows slots.old.items))) }
+    ensures { OnOk result (rows slots.new.items ≡ map (put_row place request.now owner) (with_row number (rows slots.old.items))) }
 {
     make_slot(number, slots)?;
-    put_slots(request, owner, slots);
+    put_slots(place, request, owner, slots);
     Ok(())
 }
 

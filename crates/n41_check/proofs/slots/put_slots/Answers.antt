@@ -6,7 +6,7 @@ use Rattle.n41_check.proofs.slots.put_slots.Goals as goal
 pub loop-slot-preserved : goal.loop-slot-preserved
 loop-slot-preserved c =
     let l : c.loop-slot.slot-index < length c.loop-slot.slots = omega arith in
-    rows_next (put_row c.args.request.now c.args.owner) c.args.slots.now c.loop-slot.slots c.loop-slot.slot-index _ c.put_slot.new.slot c.loop-slot.invariant c.put_slot.ensures l
+    rows_next (put_row c.args.place c.args.request.now c.args.owner) c.args.slots.now c.loop-slot.slots c.loop-slot.slot-index _ c.put_slot.new.slot c.loop-slot.invariant c.put_slot.ensures l
 
 pub returns : goal.returns
-returns c = rows_whole (put_row c.args.request.now c.args.owner) c.args.slots.now c.loop-slot.slots c.loop-slot.slot-index c.loop-slot.invariant (omega arith)
+returns c = rows_whole (put_row c.args.place c.args.request.now c.args.owner) c.args.slots.now c.loop-slot.slots c.loop-slot.slot-index c.loop-slot.invariant (omega arith)

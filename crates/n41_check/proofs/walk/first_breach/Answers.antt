@@ -2,7 +2,7 @@ use Rattle.std.proofs.Common.{◌+◌, ◌<◌, ℕ, List, arith, length, revers
 use Rattle.std.proofs.lemmas.List.{take_all}
 use Rattle.n41_journal.specs.declared.events.Event.{Event}
 use Rattle.n41_check.specs.Rules.{Clean, callers}
-use Rattle.n41_check.proofs.Walked.{Led, first_is, is_tried, led_next, next_begins, next_few, next_is, part_length}
+use Rattle.n41_check.proofs.Walked.{Led, first_is, is_counted, led_next, next_begins, next_few, next_is, part_length}
 use Rattle.n41_check.proofs.walk.first_breach.Goals as goal
 
 pub loop-index-init : goal.loop-index-init
@@ -28,10 +28,10 @@ step-requires-clause-room c =
     let q = part_length xs i (omega arith) in
     omega (arith, k, q)
 
-pub step-requires-clause-tried : goal.step-requires-clause-tried
-step-requires-clause-tried c =
+pub step-requires-clause-counted : goal.step-requires-clause-counted
+step-requires-clause-counted c =
     let xs = c.args.events.now in
-    is_tried (callers (reverse xs)) (reverse (take c.loop-index.index xs)) c.loop-index.machine (c.loop-index.invariant (callers (reverse xs)) (omega arith)).shows
+    is_counted (callers (reverse xs)) (reverse (take c.loop-index.index xs)) c.loop-index.machine (c.loop-index.invariant (callers (reverse xs)) (omega arith)).shows
 
 pub loop-index-preserved : goal.loop-index-preserved
 loop-index-preserved c = λ n h.

@@ -9,4 +9,5 @@ returns c = λ n. record {
   facts = c.new.ensures;
   requests = c.new-2.ensures n;
   seats = λ d. seat_empty n c.new-3.result d c.new-3.ensures.empty;
+  files = c.new-4.ensures;
 }

@@ -9,6 +9,6 @@ use Rattle.n41_check.proofs.machine.Machine.took.Goals as goal
 pub returns : goal.returns
 returns c = λ n js d p s.
     let e = c.said-said.ensures n js s in
-    shows_took n js d p c.args.reply.now c.said-said.result c.args.self.now _ _ _ e s (c.took-3.ensures n js d p c.args.reply.now s.facts e)
+    shows_took n js d p c.args.reply.now c.said-said.result c.args.self.now _ _ _ _ e s (c.took-3.ensures n js d p c.args.reply.now s.facts e)
     (c.took-2.ensures n js d p s.requests (c.is_some.ensures ∙ (ap (λ (m : Option SessionMade). is_some m) c.made.ensures ∙ ap (λ (a : Said). is_some (session_in a.bare)) e)))
-    c.in_ok-took.ensures
+    c.in_ok-took.ensures.seats c.in_ok-took.ensures.files
