@@ -46,17 +46,20 @@ or_none false b e f = f
 
 -- ---- the slots from one on
 
+here : (js : List Event) (o : List ℕ) (p i k s : ℕ) → (i == s) ≡ true → open_on js o p s ≡ true → opens_from js o p i (suc k) ≡ true
+here js o p i k s f e =
+    let q : s ≡ i = grind (arith, nat_tests, f) in
+    or_first (open_on js o p i) (opens_from js o p (i + 1) k) (subst (λ (t : ℕ). open_on js o p t ≡ true) q e)
+
+some_next : (js : List Event) (o : List ℕ) (p i k s : ℕ) (b : Bool) → (i == s) ≡ b → i ≤ s → open_on js o p s ≡ true → (i + 1 ≤ s → opens_from js o p (i + 1) k ≡ true) → opens_from js o p i (suc k) ≡ true
+some_next js o p i k s true f l e h = here js o p i k s f e
+some_next js o p i k s false f l e h =
+    let v : i + 1 ≤ s = grind (arith, nat_tests, f, l) in
+    or_second (open_on js o p i) (opens_from js o p (i + 1) k) (h v)
+
 some_from : (js : List Event) (o : List ℕ) (p i k s : ℕ) → i ≤ s → s < i + k → open_on js o p s ≡ true → opens_from js o p i k ≡ true
 some_from js o p i zero s l u e = absurd (omega (arith, l, u))
-some_from js o p i (suc k) s l u e = at_test (i == s) refl where
-  at_test : (b : Bool) → (i == s) ≡ b → opens_from js o p i (suc k) ≡ true
-  at_test true f =
-      let q : s ≡ i = grind (arith, nat_tests, f) in
-      or_first (open_on js o p i) (opens_from js o p (i + 1) k) (subst (λ (t : ℕ). open_on js o p t ≡ true) q e)
-  at_test false f =
-      let v : i + 1 ≤ s = grind (arith, nat_tests, f, l) in
-      let w : s < i + 1 + k = omega (arith, u) in
-      or_second (open_on js o p i) (opens_from js o p (i + 1) k) (some_from js o p (i + 1) k s v w e)
+some_from js o p i (suc k) s l u e = some_next js o p i k s (i == s) refl l e (λ v. some_from js o p (i + 1) k s v (omega (arith, u)) e)
 
 none_from : (js : List Event) (o : List ℕ) (p i k : ℕ) → ((s : ℕ) → s < i + k → open_on js o p s ≡ false) → opens_from js o p i k ≡ false
 none_from js o p i zero h = refl

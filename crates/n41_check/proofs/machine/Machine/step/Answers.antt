@@ -37,5 +37,5 @@ returns-in-Took c =
 pub returns-in-Answered : goal.returns-in-Answered
 returns-in-Answered c =
     on_ok_weaker c.answered.result
-    (λ h. subst (λ (e : Event). Moves c.args.self.now e c.answered.new.self) (sym c.in-Answered.is) (λ n js s k f. h n js c.in-Answered.number c.in-Answered.answer s))
+    (λ h. subst (λ (e : Event). Moves c.args.self.now e c.answered.new.self) (sym c.in-Answered.is) (λ n js s k f. h n js c.in-Answered.number s))
     c.answered.ensures
