@@ -27,6 +27,7 @@ use Rattle.n41_check.specs.Shows.{Owns, Shows, now_of, said_of}
 use Rattle.n41_check.specs.declared.machine.Machine.{Machine}
 use Rattle.n41_check.specs.declared.now.Now.{Now}
 use Rattle.n41_check.specs.declared.requests.Requests.{Requests}
+use Rattle.n41_check.specs.declared.slots.Slot.{Slot}
 use Rattle.n41_check.proofs.Waiting.{hour_is}
 use Rattle.n41_check.proofs.Seats.{answered_is, began_is, put_is, took_is}
 
@@ -93,8 +94,12 @@ scene_is : (n : ℕ) (js : List Event) (m : Machine) (ws : List Row) → Shows n
 scene_is n js m ws s = ap (λ (f : Now). scene f ws m.files) s.facts ∙ ap (λ (g : Files). scene (now_of js) ws g) s.files
 
 -- a reply is taken by a caller, where it is to a request of its
-abbrev after : Said → Reply → ℕ → ℕ → Scene → Seat → Seat
+abbrev pub after : Said → Reply → ℕ → ℕ → Scene → Seat → Seat
 after a y c i w s = if is_caller a.owner c then replied (hour_in i w s) a y s else s
+
+-- by the same slots, what is kept of the callers is the same
+pub seats_by : (a : Said) (y : Reply) (i : ℕ) (f : Now) (g : Files) (m z : BTreeMap ℕ Seat) (ss ts : List Slot) → ss ≡ ts → ((c : ℕ) → seat_at z c ≡ after a y c i (scene f (rows ss) g) (seat_at m c)) → (c : ℕ) → seat_at z c ≡ after a y c i (scene f (rows ts) g) (seat_at m c)
+seats_by a y i f g m z ss ts e h c = h c ∙ ap (λ (xs : List Slot). after a y c i (scene f (rows xs) g) (seat_at m c)) e
 
 seats_took : (n : ℕ) (js : List Event) (d p : ℕ) (y : Reply) (a : Said) (m : Machine) (z : BTreeMap ℕ Seat) → a ≡ said_of n js y → Shows n js m → ((c : ℕ) → seat_at z c ≡ after a y c m.count (scene m.facts (rows m.requests.slots.items) m.files) (seat_at m.seats c)) → (c : ℕ) → seat_at z c ≡ seat_of n (Took d p y ∷ js) c
 seats_took n js d p y a m z e s k c =
