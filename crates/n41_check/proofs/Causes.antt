@@ -12,7 +12,7 @@ use Rattle.n41_types.specs.Plans.{class_of}
 use Rattle.n41_journal.specs.declared.events.Event.{Event}
 use Rattle.n41_journal.specs.declared.events.Event.TheVariants.{Answered, Put, Took}
 use Rattle.n41_calls.specs.Answers.{UnknownCause, UnreachableCause, round_limit}
-use Rattle.n41_calls.specs.Calls.{call, command, files, given, is_caller, number, owner}
+use Rattle.n41_calls.specs.Calls.{call, command, given, is_caller, number, owner}
 use Rattle.n41_results.specs.declared.replies.Reply.{Reply}
 use Rattle.n41_model.specs.Requests.{doubt, moment, out, outs, rounds}
 use Rattle.n41_view.specs.Causes.{is_changing}

@@ -1,5 +1,5 @@
 -- What the machine has is what the journal says, event by event.
-use Rattle.std.proofs.Common.{◌≡◌, ℕ, suc, ◌+◌, ◌≤◌, ◌<◌, ◌==◌, Bool, true, false, List, [], ◌∷◌, length, Option, Some, None, if◌then◌else◌, refl, sym, ◌∙◌, ap, add-one, arith}
+use Rattle.std.proofs.Common.{◌≡◌, ℕ, suc, ◌+◌, ◌<◌, ◌==◌, true, false, List, [], ◌∷◌, length, Option, Some, None, if◌then◌else◌, refl, sym, ◌∙◌, ap, add-one, arith}
 use Rattle.std.specs.BTreeMap.{BTreeMap}
 use Rattle.n41_types.specs.declared.commands.Answer.{Answer}
 use Rattle.n41_types.specs.declared.commands.Command.{Command}
@@ -21,8 +21,7 @@ use Rattle.n41_view.specs.declared.tables.Seat.{Seat}
 use Rattle.n41_view.proofs.Owners.{files_put}
 use Rattle.n41_check.specs.Asked.{Knows}
 use Rattle.n41_check.specs.Callers.{Scene, answered, begun, hour_in, put, replied, scene, seat_at, told_in}
-use Rattle.n41_check.specs.Rows.{Apart, Row, row_at, row_of, rows}
-use Rattle.n41_check.specs.Rules.{callers}
+use Rattle.n41_check.specs.Rows.{Row, rows}
 use Rattle.n41_check.specs.Shows.{Owns, Shows, now_of, said_of}
 use Rattle.n41_check.specs.declared.machine.Machine.{Machine}
 use Rattle.n41_check.specs.declared.now.Now.{Now}

@@ -1,18 +1,17 @@
 -- Opens that are out, by what is kept of the slots and by the journal.
 use Rattle.std.proofs.Common.{◌≡◌, ℕ, zero, suc, ◌+◌, ◌≤◌, ◌<◌, ◌==◌, Bool, true, false, ◌&&◌, ◌||◌, not, List, length, Option, Some, None, refl, sym, subst, ◌∙◌, ap, arith}
 use Rattle.std.proofs.lemmas.Bool.Decides.{nat_tests}
-use Rattle.std.specs.List.{list_any}
 use Rattle.std.specs.Prelude.{nat_lt}
 use Rattle.n41_journal.specs.declared.events.Event.{Event}
 use Rattle.n41_model.specs.Requests.{begun, moment, out}
 use Rattle.n41_model.specs.Sessions.{slots}
 use Rattle.n41_model.specs.declared.words.Stale.{Stale}
-use Rattle.n41_calls.specs.Calls.{Hour, awaits, call, files, hour, is_ready_call, open_out, opens_from, opens_on, owner_seen, stale_now}
+use Rattle.n41_calls.specs.Calls.{Hour, awaits, call, files, hour, open_out, opens_from, opens_on, owner_seen, stale_now}
 use Rattle.n41_calls.specs.Files.{Files, is_alone, seen_at}
 use Rattle.n41_calls.specs.Walks.{Seen, opener}
 use Rattle.n41_view.specs.View.{seat_of}
 use Rattle.n41_check.specs.Callers.{hour_in, scene}
-use Rattle.n41_check.specs.Rows.{Apart, Row, awaits_by, blank, open_by, opens_by, row_at, row_of, stale_by}
+use Rattle.n41_check.specs.Rows.{Apart, Row, awaits_by, open_by, opens_by, row_at, row_of, stale_by}
 use Rattle.n41_check.specs.Shows.{now_of}
 use Rattle.n41_check.proofs.Finding.{found_row, none_found}
 
@@ -78,9 +77,9 @@ open_at n js o p ws a h true e =
     e ∙ sym (some_from js o p 0 (slots js) f.0 (omega arith) l q.1)
 open_at n js o p ws a h false e =
     e ∙ sym (none_from js o p 0 (slots js) (λ s l.
-        let t : nat_lt s (slots js) ≡ true = grind (arith, nat_tests, l) in
-        let g : opens_by o p (slots js) (row_at ws s) ≡ false = none_found (opens_by o p (slots js)) ws e s (and_false (nat_lt s (slots js)) false refl) in
-        second (nat_lt s (slots js)) (open_on js o p s) t (ap (opens_by o p (slots js)) (sym (h s)) ∙ g)))
+    let t : nat_lt s (slots js) ≡ true = grind (arith, nat_tests, l) in
+    let g : opens_by o p (slots js) (row_at ws s) ≡ false = none_found (opens_by o p (slots js)) ws e s (and_false (nat_lt s (slots js)) false refl) in
+    second (nat_lt s (slots js)) (open_on js o p s) t (ap (opens_by o p (slots js)) (sym (h s)) ∙ g)))
 
 pub open_is : (n : ℕ) (js : List Event) (o : List ℕ) (p : ℕ) (ws : List Row) → Apart ws → ((s : ℕ) → row_at ws s ≡ row_of n js s) → open_by o p (slots js) ws ≡ open_out js o p
 open_is n js o p ws a h = open_at n js o p ws a h (open_by o p (slots js) ws) refl

@@ -4,12 +4,11 @@ use Rattle.std.specs.BTreeMap.{BTreeMap, get}
 use Rattle.std.specs.Ordering.{nat_cmp}
 use Rattle.n41_types.specs.declared.commands.Answer.{Answer}
 use Rattle.n41_types.specs.declared.commands.Command.{Command}
-use Rattle.n41_types.specs.declared.plans.Plan.{Plan}
 use Rattle.n41_types.specs.declared.plans.Request.{Request}
 use Rattle.n41_results.specs.declared.replies.Reply.{Reply}
 use Rattle.n41_calls.specs.Walks.{Sight, is_plan, next_plan, owner_text}
 use Rattle.n41_calls.specs.Files.{Files, is_alone}
-use Rattle.n41_calls.specs.Calls.{Hour, answered_call, answered_files, began_files, either, fresh_call, handle_given, is_ready_call, no_way, pause_given, put_call, took_call}
+use Rattle.n41_calls.specs.Calls.{Hour, answered_call, either, fresh_call, handle_given, is_ready_call, no_way, pause_given, put_call, took_call}
 use Rattle.n41_view.specs.Step.{Said, call_of, seat_seen, seat_told, with_call}
 use Rattle.n41_view.specs.declared.tables.Seat.{Seat}
 use Rattle.n41_check.specs.Rows.{Row, awaits_by, stale_by}
