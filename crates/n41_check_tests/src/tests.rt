@@ -1,128 +1,15 @@
 ghost use Rattle.std.specs.Prelude.{◌<◌};
 
-use n41_check::{Rule, check};
+use crate::parts::{add, add_start, answered, found, name, path, put, sequenced, took_one};
+use n41_check::Rule;
 use n41_journal::{Cause, Event, Journal};
-use n41_results::{Channel, Identity, Reply, ReplyBody, Res, Results, Sequenced, SessionMade};
-use n41_types::{
-    Answer, Attrs, Bytes, Command, Name, NoMemory, Path, Place, Plan, Request, SessionId, SlotUse,
-    Status, Value,
-};
-use std::alloc::{AllocError, Global};
-
-const SID: SessionId = SessionId([9; 16]);
-
-const CHANNEL: Channel = Channel {
-    header_pad: 0,
-    request_max: 1_048_576,
-    reply_max: 1_048_576,
-    cached_max: 4096,
-    ops_max: 16,
-    requests_max: 2,
-    ird: None,
-};
-
-const MADE: SessionMade = SessionMade {
-    sid: SID,
-    sequence: 1,
-    flags: 0,
-    fore: CHANNEL,
-    back: CHANNEL,
-};
-
-const LEASE: Attrs = Attrs {
-    kind: None,
-    change: None,
-    size: None,
-    lease: Some(90),
-    fileid: None,
-    mode: None,
-};
-
-fn add(journal: &mut Journal, event: Event) -> Result<(), NoMemory> {
-    match journal.push(event) {
-        Ok(()) => Ok(()),
-        Err(event) => {
-            drop(event);
-            Err(AllocError)
-        }
-    }
-}
-
-/// A Put of a request without a slot.
-fn bare(xid: u32, plan: Plan) -> Event {
-    Event::Put {
-        conn: 1,
-        place: 0,
-        request: Request {
-            xid,
-            uid: 1000,
-            gid: 100,
-            minor: 1,
-            slot: None,
-            plan,
-        },
-    }
-}
-
-/// A Put of a request on a slot.
-fn put(xid: u32, slot: u32, turn: u32, plan: Plan) -> Event {
-    let place = SlotUse {
-        sid: SID,
-        slot,
-        turn,
-        highest: slot,
-        cache: plan.is_cached(),
-    };
-    Event::Put {
-        conn: 1,
-        place: 0,
-        request: Request {
-            xid,
-            uid: 1000,
-            gid: 100,
-            minor: 1,
-            slot: Some(place),
-            plan,
-        },
-    }
-}
+use n41_results::Res;
+use n41_types::{Answer, Command, NoMemory, Place, Plan, Status, Value};
+use std::alloc::Global;
 
 /// A look at the root.
 fn look(xid: u32, slot: u32, turn: u32) -> Event {
     put(xid, slot, turn, Plan::Stat { at: Place::Root })
-}
-
-/// A Took of these results, all OK.
-fn took(alloc: Global, xid: u32, results: Vec<Res>) -> Result<Event, NoMemory> {
-    Ok(Event::Took {
-        conn: 1,
-        place: 0,
-        reply: Reply {
-            xid,
-            body: ReplyBody::Results {
-                status: Status::OK,
-                list: Results::from_vec(alloc, results)?,
-            },
-        },
-    })
-}
-
-/// A Took of one result.
-fn took_one(alloc: Global, xid: u32, only: Res) -> Result<Event, NoMemory> {
-    let mut results = Vec::new(alloc);
-    results.push(only)?;
-    took(alloc, xid, results)
-}
-
-fn sequenced(turn: u32) -> Res {
-    Res::Sequence(Ok(Sequenced {
-        sid: SID,
-        turn,
-        slot: 0,
-        highest: 1,
-        target: 1,
-        flags: 0,
-    }))
 }
 
 /// A pause begins.
@@ -135,28 +22,8 @@ fn pause(caller: u32, number: u64) -> Event {
     }
 }
 
-fn answered(caller: u32, number: u64, answer: Answer) -> Event {
-    Event::Answered {
-        caller,
-        number,
-        answer,
-    }
-}
-
 fn paused(caller: u32, number: u64) -> Event {
     answered(caller, number, Answer::Done(Value::Paused))
-}
-
-/// What is found in a journal that was filled or not. The journal is done with.
-fn found(
-    alloc: Global,
-    journal: Journal,
-    filled: Result<(), NoMemory>,
-) -> Result<Option<(u64, Rule)>, NoMemory> {
-    let found = check(alloc, &journal);
-    drop(journal);
-    filled?;
-    found
 }
 
 /// A pause that is answered so many times.
@@ -255,7 +122,7 @@ fn add_refusal(alloc: Global, journal: &mut Journal, third: bool) -> Result<(), 
     )?;
     add(journal, look(2, 0, 1))?;
     if third {
-        add(journal, took_one(alloc, 2, sequenced(1))?)?;
+        add(journal, took_one(alloc, 2, sequenced(0, 1))?)?;
         add(journal, look(3, 0, 1))?;
     }
     Ok(())
@@ -275,72 +142,6 @@ fn a_turn_that_is_given_back_is_no_repeat(rt: HostRuntime) -> Result<(), NoMemor
         Some((5, Rule::Retries))
     );
     Ok(())
-}
-
-fn exchanged(alloc: Global) -> Result<Res, NoMemory> {
-    let major = Bytes::copy_from_slice(alloc, b"server")?;
-    let scope = Bytes::copy_from_slice(alloc, b"scope")?;
-    Ok(Res::ExchangeId(Ok(Identity {
-        client: 5,
-        sequence: 1,
-        flags: 0,
-        minor: 0,
-        major,
-        scope,
-        implementation: None,
-    })))
-}
-
-/// A connection and a client id: three events.
-fn add_client(alloc: Global, journal: &mut Journal) -> Result<(), NoMemory> {
-    add(journal, Event::Dialed { conn: 1 })?;
-    let owner = Bytes::copy_from_slice(alloc, b"client")?;
-    let verifier = [7; 8];
-    add(journal, bare(1, Plan::ExchangeId { verifier, owner }))?;
-    add(journal, took_one(alloc, 1, exchanged(alloc)?)?)
-}
-
-/// A session: two more.
-fn add_session(alloc: Global, journal: &mut Journal) -> Result<(), NoMemory> {
-    add(journal, bare(2, Plan::CreateSession { client: 5, seq: 1 }))?;
-    add(journal, took_one(alloc, 2, Res::CreateSession(Ok(MADE)))?)
-}
-
-fn pushed(list: Vec<Res>, res: Res) -> Result<Vec<Res>, NoMemory> {
-    let mut list = list;
-    list.push(res)?;
-    Ok(list)
-}
-
-/// RECLAIM_COMPLETE: two more.
-fn add_complete(alloc: Global, journal: &mut Journal) -> Result<(), NoMemory> {
-    add(journal, put(3, 0, 1, Plan::Complete))?;
-    let list = pushed(Vec::new(alloc), sequenced(1))?;
-    let list = pushed(list, Res::ReclaimComplete(Status::OK))?;
-    add(journal, took(alloc, 3, list)?)
-}
-
-/// The lease time: two more.
-fn add_lease(alloc: Global, journal: &mut Journal) -> Result<(), NoMemory> {
-    add(journal, put(4, 0, 2, Plan::LeaseTime))?;
-    let list = pushed(Vec::new(alloc), sequenced(2))?;
-    let list = pushed(list, Res::PutRootFh(Status::OK))?;
-    let list = pushed(list, Res::GetAttr(Ok(LEASE)))?;
-    add(journal, took(alloc, 4, list)?)
-}
-
-fn name(alloc: Global) -> Result<Name, NoMemory> {
-    match Name::of(alloc, b"a") {
-        Ok(name) => Ok(name),
-        Err(_) => Err(AllocError),
-    }
-}
-
-/// A path of one name.
-fn path(alloc: Global) -> Result<Path, NoMemory> {
-    let mut names = Vec::new(alloc);
-    names.push(name(alloc)?)?;
-    Path::from_vec(alloc, names)
 }
 
 /// A directory is to be made, its request goes out, and the connection breaks: three more, twelve in all.
@@ -367,23 +168,25 @@ fn add_change(alloc: Global, journal: &mut Journal) -> Result<(), NoMemory> {
     )
 }
 
-/// Then so many dials fail, and the directory's command is answered so.
+/// Then so many dials fail.
+fn add_dials(alloc: Global, journal: &mut Journal, dials: u32) -> Result<(), NoMemory> {
+    add_start(alloc, journal)?;
+    add_change(alloc, journal)?;
+    for _ in 0..dials {
+        add(journal, Event::DialFailed)?;
+    }
+    Ok(())
+}
+
+/// Then the directory's command is answered so.
 fn add_end(
     alloc: Global,
     journal: &mut Journal,
     dials: u32,
     answer: Answer,
 ) -> Result<(), NoMemory> {
-    let end = answered(0, 1, answer);
-    add_client(alloc, journal)?;
-    add_session(alloc, journal)?;
-    add_complete(alloc, journal)?;
-    add_lease(alloc, journal)?;
-    add_change(alloc, journal)?;
-    for _ in 0..dials {
-        add(journal, Event::DialFailed)?;
-    }
-    add(journal, end)
+    add_dials(alloc, journal, dials)?;
+    add(journal, answered(0, 1, answer))
 }
 
 fn found_after(alloc: Global, dials: u32, answer: Answer) -> Result<Option<(u64, Rule)>, NoMemory> {
@@ -420,7 +223,7 @@ fn add_command(
     let xid = caller * 1_000_000 + number;
     add(journal, pause(caller, u64::from(number)))?;
     add(journal, look(xid, caller, number))?;
-    add(journal, took_one(alloc, xid, sequenced(number))?)?;
+    add(journal, took_one(alloc, xid, sequenced(caller, number))?)?;
     add(journal, paused(caller, u64::from(number)))
 }
 
