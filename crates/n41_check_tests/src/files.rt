@@ -38,6 +38,7 @@ enum Told {
     Lowered(u32),
     Closed,
     Outdated,
+    Exists,
 }
 
 #[derive(Clone, Copy)]
@@ -45,6 +46,7 @@ enum Gave {
     Opened,
     Wrote,
     Closed,
+    Exists,
 }
 
 /// One event, or the last ones of a run. A caller's events name it and the number of its command, a message its slot and turn.
@@ -177,6 +179,7 @@ fn results_of(alloc: Global, told: Told, before: Vec<Res>) -> Result<Vec<Res>, N
         Told::Lowered(seqid) => pushed(before, Res::OpenDowngrade(Ok(stateid(seqid)))),
         Told::Closed => pushed(before, Res::Close(Ok(stateid(9)))),
         Told::Outdated => pushed(before, Res::Close(Err(Status::OLD_STATEID))),
+        Told::Exists => pushed(before, Res::Open(Err(Status::EXIST))),
     }
 }
 
@@ -184,6 +187,7 @@ fn results_of(alloc: Global, told: Told, before: Vec<Res>) -> Result<Vec<Res>, N
 fn status_of(told: Told) -> Status {
     match told {
         Told::Outdated => Status::OLD_STATEID,
+        Told::Exists => Status::EXIST,
         _ => Status::OK,
     }
 }
@@ -203,11 +207,12 @@ fn reply_of(alloc: Global, slot: u32, turn: u32, told: Told) -> Result<Event, No
 }
 
 fn answer_of(gave: Gave) -> Answer {
-    Answer::Done(match gave {
-        Gave::Opened => Value::Opened,
-        Gave::Wrote => Value::Wrote(5),
-        Gave::Closed => Value::Closed,
-    })
+    match gave {
+        Gave::Opened => Answer::Done(Value::Opened),
+        Gave::Wrote => Answer::Done(Value::Wrote(5)),
+        Gave::Closed => Answer::Done(Value::Closed),
+        Gave::Exists => Answer::Refused(Status::EXIST),
+    }
 }
 
 /// The connection breaks, and no other can be made: seventeen events, which end a run.
@@ -582,6 +587,85 @@ static WAITING: [Case; 2] = [
 #[test]
 fn an_outdated_close_waits_for_the_opens_of_its_owner(rt: HostRuntime) -> Result<(), NoMemory> {
     for case in &WAITING {
+        assert_eq!(rt; found_after(rt.alloc(), case.steps)?, case.found);
+    }
+    Ok(())
+}
+
+/// A create that is refused has its answer, and its label names no handle.
+static REFUSED: [Case; 3] = [
+    Case {
+        steps: &[
+            Step::Began(0, 2, Asked::Create(b'g')),
+            Step::Sent(0, 4, Sent::Create),
+            Step::Told(0, 4, Told::Exists),
+            Step::Unreachable(0, 2),
+        ],
+        found: Some((34, Rule::Causes)),
+    },
+    Case {
+        steps: &[
+            Step::Began(0, 2, Asked::Create(b'g')),
+            Step::Sent(0, 4, Sent::Create),
+            Step::Told(0, 4, Told::Exists),
+            Step::Gave(0, 2, Gave::Exists),
+            Step::Began(0, 3, Asked::Write(b'g')),
+            Step::Unreachable(0, 3),
+        ],
+        found: Some((36, Rule::Causes)),
+    },
+    Case {
+        steps: &[
+            Step::Began(0, 2, Asked::Create(b'g')),
+            Step::Sent(0, 4, Sent::Create),
+            Step::Told(0, 4, Told::Exists),
+            Step::Gave(0, 2, Gave::Exists),
+            Step::Began(0, 3, Asked::Write(b'f')),
+            Step::Unreachable(0, 3),
+        ],
+        found: None,
+    },
+];
+
+#[test]
+fn a_refused_create_opens_nothing(rt: HostRuntime) -> Result<(), NoMemory> {
+    for case in &REFUSED {
+        assert_eq!(rt; found_after(rt.alloc(), case.steps)?, case.found);
+    }
+    Ok(())
+}
+
+/// Of two callers that want the same request it is the one's whose command began first.
+static BOTH: [Case; 2] = [
+    Case {
+        steps: &[
+            Step::Began(1, 1, Asked::OpenFile(b'g')),
+            Step::Began(0, 2, Asked::OpenFile(b'h')),
+            Step::Sent(0, 4, Sent::Walk),
+            Step::Told(0, 4, Told::Reached),
+            Step::Sent(0, 5, Sent::Open(Mode::Read)),
+            Step::Told(0, 5, Told::Opened(2)),
+            Step::Unreachable(1, 1),
+        ],
+        found: Some((37, Rule::Causes)),
+    },
+    Case {
+        steps: &[
+            Step::Began(1, 1, Asked::OpenFile(b'g')),
+            Step::Began(0, 2, Asked::OpenFile(b'h')),
+            Step::Sent(0, 4, Sent::Walk),
+            Step::Told(0, 4, Told::Reached),
+            Step::Sent(0, 5, Sent::Open(Mode::Read)),
+            Step::Told(0, 5, Told::Opened(2)),
+            Step::Unreachable(0, 2),
+        ],
+        found: None,
+    },
+];
+
+#[test]
+fn a_request_is_of_the_command_that_began_first(rt: HostRuntime) -> Result<(), NoMemory> {
+    for case in &BOTH {
         assert_eq!(rt; found_after(rt.alloc(), case.steps)?, case.found);
     }
     Ok(())
