@@ -24,7 +24,7 @@ use Rattle.n41_check.specs.Rows.{Apart, Row, is_changing_out, is_doubted, row_at
 use Rattle.n41_check.specs.Rules.{Breaks, IsAsked, IsCaused, Keeps, rank}
 use Rattle.n41_check.specs.Shows.{Shows, caused_in, unknown_in}
 use Rattle.n41_check.specs.declared.machine.Machine.{Machine}
-use Rattle.n41_check.specs.declared.now.Now.{Now}
+use Rattle.n41_now.specs.declared.now.Now.{Now}
 use Rattle.n41_check.specs.declared.rules.Rule.{Rule}
 use Rattle.n41_check.specs.declared.rules.Rule.TheVariants.{Slots, Retries, Turns, Causes, Answers}
 use Rattle.n41_check.proofs.Finding.{found_row, none_found}

@@ -22,9 +22,10 @@ use Rattle.n41_view.proofs.Owners.{files_put}
 use Rattle.n41_check.specs.Asked.{Knows}
 use Rattle.n41_check.specs.Callers.{Scene, answered, begun, hour_in, put, replied, scene, seat_at, told_in}
 use Rattle.n41_check.specs.Rows.{Row, rows}
-use Rattle.n41_check.specs.Shows.{Owns, Shows, now_of, said_of}
+use Rattle.n41_check.specs.Shows.{Owns, Shows}
+use Rattle.n41_now.specs.Facts.{now_of, said_of}
 use Rattle.n41_check.specs.declared.machine.Machine.{Machine}
-use Rattle.n41_check.specs.declared.now.Now.{Now}
+use Rattle.n41_now.specs.declared.now.Now.{Now}
 use Rattle.n41_check.specs.declared.requests.Requests.{Requests}
 use Rattle.n41_check.specs.declared.slots.Slot.{Slot}
 use Rattle.n41_check.proofs.Waiting.{hour_is}

@@ -25,7 +25,8 @@ use Rattle.n41_view.specs.declared.tables.Seat.{Seat}
 use Rattle.n41_check.specs.Callers.{Scene, answered, begun, best_of, blank_seat, caller_of, put, replied, scene, seat_at, sooner_of, wants_in}
 use Rattle.n41_check.specs.Rows.{Apart, Row, row_at, row_of}
 use Rattle.n41_check.specs.Rules.{callers}
-use Rattle.n41_check.specs.Shows.{Owns, now_of, said_of}
+use Rattle.n41_check.specs.Shows.{Owns}
+use Rattle.n41_now.specs.Facts.{now_of, said_of}
 use Rattle.n41_check.proofs.Waiting.{awaits_is}
 use Rattle.n41_check.proofs.Keys.{at_key}
 

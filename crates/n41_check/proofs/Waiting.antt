@@ -12,7 +12,7 @@ use Rattle.n41_calls.specs.Walks.{Seen, opener}
 use Rattle.n41_view.specs.View.{seat_of}
 use Rattle.n41_check.specs.Callers.{hour_in, scene}
 use Rattle.n41_check.specs.Rows.{Apart, Row, awaits_by, open_by, opens_by, row_at, row_of, stale_by}
-use Rattle.n41_check.specs.Shows.{now_of}
+use Rattle.n41_now.specs.Facts.{now_of}
 use Rattle.n41_check.proofs.Finding.{found_row, none_found}
 
 -- an open by this owner is out on this slot that was put anew up to this place

@@ -34,7 +34,7 @@ use Rattle.n41_check.specs.Callers.{seat_at}
 use Rattle.n41_check.specs.Rules.{Clean, IsFirst, IsVerdict, callers}
 use Rattle.n41_check.specs.Shows.{IsCounted, Moves, Shows}
 use Rattle.n41_check.specs.declared.machine.Machine.{Machine}
-use Rattle.n41_check.specs.declared.now.Now.{Now}
+use Rattle.n41_now.specs.declared.now.Now.{Now}
 use Rattle.n41_check.specs.declared.rules.Rule.{Rule}
 use Rattle.n41_check.specs.declared.rules.Rule.TheVariants.{Slots}
 use Rattle.n41_check.proofs.Seats.{call_again, call_new}

@@ -12,7 +12,7 @@ use Rattle.n41_calls.specs.Calls.{Hour, answered_call, either, fresh_call, handl
 use Rattle.n41_view.specs.Step.{Said, call_of, seat_seen, seat_told, with_call}
 use Rattle.n41_view.specs.declared.tables.Seat.{Seat}
 use Rattle.n41_check.specs.Rows.{Row, awaits_by, stale_by}
-use Rattle.n41_check.specs.declared.now.Now.{Now}
+use Rattle.n41_now.specs.declared.now.Now.{Now}
 
 -- a caller that began nothing
 abbrev pub blank_seat : ℕ → Seat

@@ -1,15 +1,13 @@
 -- What the machine has of the journal that it was led through.
-use Rattle.std.specs.Prelude.{◌≡◌, ℕ, ◌≤◌, min, ◌==◌, Bool, true, false, ◌&&◌, not, nat_le, is_none, List, ◌∷◌, length, Option, None}
+use Rattle.std.specs.Prelude.{◌≡◌, ℕ, ◌≤◌, ◌==◌, Bool, true, false, ◌&&◌, not, nat_le, is_none, List, ◌∷◌, length, Option, None}
 use Rattle.std.specs.List.{list_any}
 use Rattle.n41_types.specs.declared.commands.Answer.{Answer}
 use Rattle.n41_types.specs.declared.commands.Answer.TheVariants as answer
 use Rattle.n41_types.specs.declared.plans.Request.{Request}
-use Rattle.n41_results.specs.declared.replies.Reply.{Reply}
 use Rattle.n41_journal.specs.declared.events.Event.{Event}
-use Rattle.n41_model.specs.Requests.{moment, heard, rounds, request, bare_verdict, verdict, slot_number}
-use Rattle.n41_model.specs.Sessions.{phase, phases, session, sessions, client, plan_of, slots}
-use Rattle.n41_calls.specs.Calls.{owner_at, ledger, files, slot_in, is_new, in_running, chosen}
-use Rattle.n41_view.specs.Step.{Said}
+use Rattle.n41_model.specs.Requests.{slot_number}
+use Rattle.n41_model.specs.Sessions.{phase}
+use Rattle.n41_calls.specs.Calls.{ledger, files, is_new, in_running, chosen}
 use Rattle.n41_view.specs.View.{seat_of}
 use Rattle.n41_check.specs.Asked.{Knows}
 use Rattle.n41_check.specs.Callers.{Scene, given_at, scene, seat_at}
@@ -17,30 +15,7 @@ use Rattle.n41_check.specs.Rows.{is_doubted, rows}
 use Rattle.n41_check.specs.Rules.{callers, Keeps}
 use Rattle.n41_check.specs.declared.rules.Rule.TheVariants.{Slots}
 use Rattle.n41_check.specs.declared.machine.Machine.{Machine}
-use Rattle.n41_check.specs.declared.now.Now.{Now}
-
--- moments, rounds, phases, sessions and their slots; sixteen rounds stand for any more
-abbrev pub now_of : List Event → Now
-now_of js = record {
-  moment = moment js;
-  heard = heard js;
-  quiet = min 16 (rounds js);
-  phase = (phases js).0;
-  work = (phases js).1;
-  session = session js;
-  sessions = sessions js;
-  slots = slots js;
-  client = client js;
-}
-
--- what a reply says of the request that it answers, where there are so many callers
-abbrev pub said_of : ℕ → List Event → Reply → Said
-said_of n js y = record {
-  bare = bare_verdict js y;
-  slot = verdict js y;
-  plan = plan_of js y;
-  owner = owner_at (ledger n js).owners (slot_in (request js y.xid));
-}
+use Rattle.n41_now.specs.Facts.{now_of}
 
 -- whose a request is that is put: of a caller where it is new, and of none where it goes again
 pub record Owns (n : ℕ) (js : List Event) (r : Request) (o : Option ℕ) : Type 0 where

@@ -9,12 +9,12 @@ ghost use Rattle.n41_check.specs.Rows.{rows};
 ghost use Rattle.n41_check.specs.Callers.{scene, wants_in, sooner_of, best_of, caller_of};
 
 use crate::callers::Seats;
-use crate::now::Now;
 use crate::opens::awaits;
 use crate::slots::Slot;
 use n41_chosen::new_owner;
 use n41_files::Files;
 use n41_model::Phase;
+use n41_now::Now;
 use n41_types::Request;
 use n41_view::{Facts, PutOffs, Seat};
 use std::slice;

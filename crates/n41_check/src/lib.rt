@@ -6,7 +6,6 @@ mod choice;
 mod labels;
 mod laws;
 mod machine;
-mod now;
 mod opens;
 mod replies;
 mod requests;

@@ -3,10 +3,10 @@ ghost use Rattle.n41_calls.specs.Calls.{is_open_by, opens_on, owner_seen};
 ghost use Rattle.n41_check.specs.Rows.{row_in, rows, opens_by, open_by, awaits_by, stale_by};
 ghost use Rattle.n41_check.specs.Callers.{scene, hour_in};
 
-use crate::now::Now;
 use crate::slots::Slot;
 use n41_files::{Files, Seen};
 use n41_model::Stale;
+use n41_now::Now;
 use n41_said::Hour;
 use n41_types::{Plan, Request};
 use n41_view::Seat;

@@ -11,11 +11,11 @@ ghost use Rattle.n41_check.specs.Callers.{seat_at, scene, hour_in, replied, told
 
 use crate::callers::{Seats, put_in, take_seat};
 use crate::labels::opened;
-use crate::now::Now;
 use crate::opens::hour;
 use crate::slots::Slot;
 use n41_files::Files;
 use n41_model::{Verdict, Way, is_final};
+use n41_now::Now;
 use n41_results::Reply;
 use n41_said::{Brought, Hour, Said, attempts_after, is_put_off_by, took_way};
 use n41_types::{Command, NoMemory};

@@ -6,8 +6,8 @@ use Rattle.n41_model.specs.declared.words.Phase.{Phase}
 use Rattle.n41_model.specs.declared.words.Phase.TheVariants.{Running}
 use Rattle.n41_check.specs.Callers.{best_of, caller_of, scene}
 use Rattle.n41_check.specs.Rows.{rows}
-use Rattle.n41_check.specs.Shows.{now_of}
-use Rattle.n41_check.specs.declared.now.Now.{Now}
+use Rattle.n41_now.specs.Facts.{now_of}
+use Rattle.n41_now.specs.declared.now.Now.{Now}
 use Rattle.n41_check.specs.declared.slots.Slot.{Slot}
 use Rattle.n41_check.proofs.Leading.{owns_none, owns_new}
 use Rattle.n41_check.proofs.Seats.{chosen_is, sees}

@@ -3,7 +3,7 @@ ghost use Rattle.n41_results.specs.declared.replies.Reply.{Reply};
 ghost use Rattle.n41_journal.specs.declared.events.Cause.{Cause};
 ghost use Rattle.n41_journal.specs.declared.events.Event.{Event};
 ghost use Rattle.n41_journal.specs.declared.events.Event.TheVariants.{Took, Dialed, DialFailed, Broke, Ticked};
-ghost use Rattle.n41_check.specs.Shows.{now_of, said_of};
+ghost use Rattle.n41_now.specs.Facts.{now_of, said_of};
 
 use n41_model::{KnownClient, Phase};
 use n41_results::SessionMade;
@@ -13,21 +13,21 @@ use n41_said::{
 
 /// What is known of moments, rounds, phases, sessions and their slots. Moments are in seconds.
 #[derive(Clone, Copy)]
-pub(crate) struct Now {
-    pub(crate) moment: u64,
+pub struct Now {
+    pub moment: u64,
     /// A reply was taken since the last round ended.
-    pub(crate) heard: bool,
+    pub heard: bool,
     /// How many rounds in a row have ended without a reply, 16 standing for any more.
-    pub(crate) quiet: u8,
-    pub(crate) phase: Phase,
+    pub quiet: u8,
+    pub phase: Phase,
     /// The last phase that was neither Down nor Binding.
-    pub(crate) work: Phase,
-    pub(crate) session: Option<SessionMade>,
+    pub work: Phase,
+    pub session: Option<SessionMade>,
     /// How many sessions were made.
-    pub(crate) sessions: u64,
+    pub sessions: u64,
     /// How many slots the last session has, 64 at most.
-    pub(crate) slots: u32,
-    pub(crate) client: Option<KnownClient>,
+    pub slots: u32,
+    pub client: Option<KnownClient>,
 }
 
 /// How many sessions were made, once this one was.
@@ -43,7 +43,7 @@ fn sessions_after(made: Option<SessionMade>, sessions: u64) -> u64
 
 impl Now {
     /// Before all events.
-    pub(crate) fn new() -> Now
+    pub fn new() -> Now
         ensures { result ≡ now_of [] }
     {
         Now {
@@ -60,14 +60,14 @@ impl Now {
     }
 
     /// The clock showed this moment.
-    pub(crate) fn ticked(&mut self, moment: u64)
+    pub fn ticked(&mut self, moment: u64)
         ensures { (js : List Event) → self.old ≡ now_of js → self.new ≡ now_of (Ticked moment ∷ js) }
     {
         self.moment = moment;
     }
 
     /// No connection could be made: a round ends.
-    pub(crate) fn dial_failed(&mut self)
+    pub fn dial_failed(&mut self)
         ensures { (js : List Event) → self.old ≡ now_of js → self.new ≡ now_of (DialFailed ∷ js) }
     {
         self.quiet = if self.heard {
@@ -79,7 +79,7 @@ impl Now {
     }
 
     /// A connection was made.
-    pub(crate) fn dialed(&mut self)
+    pub fn dialed(&mut self)
         ensures { (js : List Event) (c : ℕ) → self.old ≡ now_of js → self.new ≡ now_of (Dialed c ∷ js) }
     {
         let phase = dialed_phase(self.phase, self.session, self.client);
@@ -88,7 +88,7 @@ impl Now {
     }
 
     /// The connection broke: a round ends.
-    pub(crate) fn broke(&mut self)
+    pub fn broke(&mut self)
         ensures { (js : List Event) (c : ℕ) (w : Cause) → self.old ≡ now_of js → self.new ≡ now_of (Broke c w ∷ js) }
     {
         self.dial_failed();
@@ -98,7 +98,7 @@ impl Now {
     }
 
     /// A reply was taken that says this.
-    pub(crate) fn took(&mut self, said: &Said)
+    pub fn took(&mut self, said: &Said)
         requires { self.old.sessions + 1 < 2 ^ 64 }
         ensures { (n : ℕ) (js : List Event) (c p : ℕ) (y : Reply) → self.old ≡ now_of js → said.now ≡ said_of n js y → self.new ≡ now_of (Took c p y ∷ js) }
     {
