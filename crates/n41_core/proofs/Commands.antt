@@ -8,7 +8,7 @@ use Rattle.n41_calls.specs.Calls.{command, number}
 use Rattle.n41_view.specs.View.{view}
 use Rattle.n41_view.specs.declared.tables.Seat.{Seat}
 use Rattle.n41_answers.specs.Answers.{lists, lists_from}
-use Rattle.n41_core.specs.Books.{Book, HasSpare}
+use Rattle.n41_core.specs.Books.{Book, IsAmple}
 use Rattle.n41_core.specs.State.{State}
 use Rattle.n41_core.specs.Causes.{post_fault}
 use Rattle.n41_core.specs.declared.faults.PostFault.{PostFault}
@@ -73,6 +73,6 @@ lists_length : (js : List Event) (c k : ℕ) → length (lists_from js c k) ≡ 
 lists_length js c zero = refl
 lists_length js c (suc k) = ap (λ (m : ℕ). suc m) (lists_length js (c + 1) k)
 
-pub spared : {E : Type 0} (r : Result (Unit {0}) E) (b : Book) (ls : List (List ℕ)) (n : ℕ) (js : List Event) → ls ≡ lists n js → b.setup.callers ≡ n → ((k : ℕ) → k < length ls → 0 < get_or b.spare k 0) → OnOk r (HasSpare 0 b)
-spared (Ok x) b ls n js e f h = λ k z l. h k (let q : length ls ≡ n = ap length e ∙ lists_length js 0 n in omega (arith, q, f, l))
+pub spared : {E : Type 0} (r : Result (Unit {0}) E) (b : Book) (ls : List (List ℕ)) (n : ℕ) (js : List Event) → ls ≡ lists n js → b.setup.callers ≡ n → ((k : ℕ) → k < length ls → 0 < get_or b.spare k 0) → OnOk r (IsAmple b)
+spared (Ok x) b ls n js e f h = λ k l. h k (let q : length ls ≡ n = ap length e ∙ lists_length js 0 n in omega (arith, q, f, l))
 spared (Err x) b ls n js e f h = tt

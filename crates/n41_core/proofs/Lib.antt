@@ -1,5 +1,6 @@
 pub mod Seats
 pub mod Earned
+pub mod Parting
 pub mod Settling
 pub mod Rounds
 pub mod Answered

@@ -63,7 +63,7 @@ met (Some p) c s = appends s (Answered c (number s.events c) (Breach p))
 
 -- a command was given: where a reply broke the rules before, it is answered at once
 abbrev pub posted : State → ℕ → Command → State
-posted s c k = met (breach_at s.events) c (begun s c k)
+posted s c k = met (breach_at s.setup.callers s.events) c (begun s c k)
 
 -- a reply was taken which answers a request that waits, and then commands were answered
 pub record TakesReply (old new : State) (c p : ℕ) (y : Reply) (r : Request) (answers : List Event) : Type 0 where

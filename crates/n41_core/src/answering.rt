@@ -1,11 +1,11 @@
-ghost use Rattle.std.specs.Prelude.{◌≡◌, ◌<◌, ℕ, List, None, IfSome, IfNone, slice_index};
+ghost use Rattle.std.specs.Prelude.{◌≡◌, ◌<◌, ◌+◌, List, None, IfSome, IfNone};
 ghost use Rattle.n41_types.specs.declared.commands.Answer.{Answer as AnswerValue};
 ghost use Rattle.n41_journal.specs.declared.events.Event.{Event};
 ghost use Rattle.n41_calls.specs.Calls.{pause_given};
 ghost use Rattle.n41_view.specs.Causes.{CauseIn};
 ghost use Rattle.n41_view.specs.View.{view};
-ghost use Rattle.n41_core.specs.Books.{HasSpare, Hands, Settles};
-ghost use Rattle.n41_core.specs.Settled.{IsDone, IsDecided, IsUntold};
+ghost use Rattle.n41_core.specs.Books.{HasSpare, IsAmple, Hands, Settles, Heeds};
+ghost use Rattle.n41_core.specs.Settled.{IsDone, IsDecided, IsPrompted, IsFresh, IsUnearned, IsUntold};
 ghost use Rattle.n41_core.specs.State.{AddsAnswers};
 
 use crate::books::Books;
@@ -26,23 +26,29 @@ fn pause_given(began_on: u64, moment: u64, command: &Option<Command>) -> Option<
     }
 }
 
-/// The answer that an unanswered command has by now to which no reply has given one. None where it goes on.
+/// The answer that an unanswered command has by now to which no reply has given one: by the moment, by its handle, or because no reply
+/// is waited for any more. None where it goes on.
 fn late_answer(books: &Books, seat: &Seat) -> Option<Answer>
     requires { seat.now.earned ≡ None }
     ensures some { IfSome result (λ a. CauseIn (view books.now.setup.callers books.now.events) seat.now a) }
     ensures none { IfNone result (IsUntold (view books.now.setup.callers books.now.events) seat.now) }
 {
     let facts = books.facts();
-    match pause_given(seat.began_on, facts.moment, &seat.command) {
+    if let Some(answer) = pause_given(seat.began_on, facts.moment, &seat.command) {
+        return Some(answer);
+    }
+    let tables = books.look(&facts);
+    match tables.handle_given(seat) {
         Some(answer) => Some(answer),
-        None => books.look(&facts).answer_at_end(seat),
+        None => tables.answer_at_end(seat),
     }
 }
 
 /// The number of the caller's unanswered command that has its answer by now, and this answer where it is not the one that the last reply to it
-/// gave. None where all is answered or goes on.
+/// gave: once a reply broke the rules, it is answered so. None where all is answered or goes on.
 fn answer_due(books: &Books, caller: u32) -> Option<(u64, Option<Answer>)>
-    requires { caller < books.now.setup.callers }
+    requires caller { caller < books.now.setup.callers }
+    requires prompted { IsPrompted books.now.setup.callers books.now.events caller }
     ensures some { IfSome result (λ r. (a : AnswerValue) × Hands books.now caller r.0 r.1 a) }
     ensures none { IfNone result (IsDone books.now.setup.callers books.now.events caller) }
 {
@@ -51,6 +57,9 @@ fn answer_due(books: &Books, caller: u32) -> Option<(u64, Option<Answer>)>
     let seat = books.seat(caller)?;
     if seat.command.is_none() {
         return None;
+    }
+    if let Some(place) = books.facts().breach_at {
+        return Some((seat.number, Some(Answer::Breach(place))));
     }
     if seat.earned.is_some() {
         return Some((seat.number, None));
@@ -64,20 +73,38 @@ fn answer_due(books: &Books, caller: u32) -> Option<(u64, Option<Answer>)>
 /// Answers the caller's command, where it has its answer.
 fn settle_one(books: &mut Books, caller: u32)
     requires caller { caller < books.old.setup.callers }
+    requires prompted { IsPrompted books.old.setup.callers books.old.events caller }
     requires room { 0 < books.old.room }
-    requires spare { HasSpare caller books.old }
+    requires spare { HasSpare books.old }
     ensures { (xs : List Event) × Settles books.old books.new caller xs }
 {
+    books.kept();
     match answer_due(books, caller) {
         None => {}
         Some((number, late)) => books.answer(caller, number, late),
     }
 }
 
-/// Answers each command that has its answer.
-pub(crate) fn settle(books: &mut Books)
+/// Answers the caller to whose command the last event brought a reply, where that gave it an answer.
+fn settle_told(books: &mut Books)
+    requires fresh { IsFresh books.old.setup.callers books.old.events }
+    requires room { 0 < books.old.room }
+    requires spare { HasSpare books.old }
+    ensures { (xs : List Event) × Heeds books.old books.new xs }
+{
+    let Some(caller) = books.facts().told else {
+        return;
+    };
+    if caller < books.setup().callers {
+        settle_one(books, caller);
+    }
+}
+
+/// Answers each command that has its answer, where no reply gives one any more.
+fn settle_all(books: &mut Books)
+    requires unearned { IsUnearned books.old.setup.callers books.old.events }
     requires room { books.old.setup.callers < books.old.room }
-    requires spare { HasSpare 0 books.old }
+    requires spare { HasSpare books.old }
     ensures room { 0 < books.new.room }
     ensures setup { books.new.setup ≡ books.old.setup }
     ensures added { (xs : List Event) × AddsAnswers books.old.events books.new.events xs }
@@ -87,4 +114,19 @@ pub(crate) fn settle(books: &mut Books)
     for caller in 0..callers {
         settle_one(books, caller);
     }
+}
+
+/// Answers each command that has its answer: first that of the caller to whom the last event brought a reply, since an open is answered
+/// right after it.
+pub(crate) fn settle(books: &mut Books)
+    requires fresh { IsFresh books.old.setup.callers books.old.events }
+    requires room { books.old.setup.callers + 1 < books.old.room }
+    requires spare { IsAmple books.old }
+    ensures room { 0 < books.new.room }
+    ensures setup { books.new.setup ≡ books.old.setup }
+    ensures added { (xs : List Event) × AddsAnswers books.old.events books.new.events xs }
+    ensures decided { IsDecided books.old.setup.callers books.new.events }
+{
+    settle_told(books);
+    settle_all(books);
 }

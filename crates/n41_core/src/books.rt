@@ -1,9 +1,10 @@
-ghost use Rattle.std.specs.Prelude.{◌≡◌, ◌<◌, ◌≤◌, ◌^◌, [], length, slice_get, slice_index, option_copied, ℕ, suc, IfOk, IfSome, IfNone, OnOk, OnErr};
+ghost use Rattle.std.specs.Prelude.{◌≡◌, ◌<◌, ◌≤◌, ◌^◌, false, [], length, slice_get, slice_index, option_copied, ℕ, suc, IfOk, IfSome, IfNone, OnOk, OnErr};
 ghost use Rattle.n41_calls.specs.Kept.{Kept, May};
 ghost use Rattle.n41_view.specs.View.{view, facts_of};
 ghost use Rattle.n41_types.specs.declared.commands.Answer.{Answer as AnswerValue};
 ghost use Rattle.n41_answers.specs.Answers.{HasAnswer};
-ghost use Rattle.n41_core.specs.Books.{IsNoAnswer, HasSpare, Hands, adds, answers_with};
+ghost use Rattle.n41_tables.specs.Copies.{is_took};
+ghost use Rattle.n41_core.specs.Books.{IsNoAnswer, IsAmple, Hands, adds, answers_with};
 
 use crate::look::look;
 use n41_answers::{Answers, answer_of, the_lists_step};
@@ -79,7 +80,7 @@ impl Books {
     }
 
     pub(crate) fn facts(&self) -> Facts
-        ensures { result ≡ facts_of self.now.events }
+        ensures { result ≡ facts_of self.now.setup.callers self.now.events }
     {
         self.tied.tables().facts()
     }
@@ -92,7 +93,7 @@ impl Books {
 
     /// The tables, looked up.
     pub(crate) fn look<'a>(&'a self, facts: &'a Facts) -> Lookup<'a>
-        requires { facts.now ≡ facts_of self.now.events }
+        requires { facts.now ≡ facts_of self.now.setup.callers self.now.events }
         ensures { result ≡ view self.now.setup.callers self.now.events }
     {
         let _callers = self.tied.setup().callers;
@@ -138,28 +139,42 @@ impl Books {
         self.tied.reserve(events)
     }
 
-    /// Makes room for an answer to each caller, and for so many events.
+    /// Makes room for an answer to each command, and for so many events.
     pub(crate) fn reserve_answers(&mut self, events: usize) -> Result<(), NoMemory>
         ensures setup { self.new.setup ≡ self.old.setup }
         ensures events { self.new.events ≡ self.old.events }
         ensures more { self.old.room ≤ self.new.room }
         ensures ok { OnOk result (events ≤ self.new.room) }
-        ensures spare { OnOk result (HasSpare 0 self.new) }
+        ensures spare { OnOk result (IsAmple self.new) }
     {
         self.answers.reserve()?;
         self.tied.reserve(events)
     }
 
-    /// Adds an event that may come now and is no answer. The tables move by its copy.
+    /// Adds an event that may come now and is no answer and no reply. The tables move by its copy.
     pub(crate) fn add(&mut self, event: Event, copy: EventCopy)
         requires room { 0 < self.old.room }
         requires may { May self.old.setup self.old.events event }
         requires other { IsNoAnswer event }
+        requires no_reply { is_took event ≡ false }
         requires same { copy ≡ event }
         ensures { self.new ≡ adds self.old event }
     {
         the_lists_step();
         self.tied.add(event, copy);
+    }
+
+    /// Adds a reply that may come now. The tables move by its copy, which may take memory: where that is wanting nothing changes.
+    pub(crate) fn take(&mut self, event: Event, copy: EventCopy) -> Result<(), NoMemory>
+        requires room { 0 < self.old.room }
+        requires may { May self.old.setup self.old.events event }
+        requires other { IsNoAnswer event }
+        requires same { copy ≡ event }
+        ensures ok { OnOk result (self.new ≡ adds self.old event) }
+        ensures err { OnErr result (self.new ≡ self.old) }
+    {
+        the_lists_step();
+        self.tied.take(event, copy)
     }
 
     /// Adds an answer to the caller's command of this number: the one that is handed over, or else the one that the last reply to it gave, which

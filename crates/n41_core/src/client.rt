@@ -79,7 +79,7 @@ impl Core {
 
     /// The place in the journal of the first reply that broke the rules. None where there is none.
     pub fn breach(&self) -> Option<u64>
-        ensures { result ≡ breach_at self.now.events }
+        ensures { result ≡ breach_at self.now.setup.callers self.now.events }
     {
         self.books.facts().breach_at
     }

@@ -1,7 +1,8 @@
 ghost use Rattle.std.specs.Prelude.{◌≡◌, ◌⊎◌, ◌≤◌, ◌<◌, suc, true, Some, None, IfOk, IfErr, OnOk, OnErr};
-ghost use Rattle.n41_calls.specs.Calls.{number as last_number, is_built};
+ghost use Rattle.n41_calls.specs.Calls.{number as last_number};
+ghost use Rattle.n41_calls.specs.Walks.{is_built};
 ghost use Rattle.n41_model.specs.Requests.{moment as last_moment};
-ghost use Rattle.n41_core.specs.Books.{HasSpare};
+ghost use Rattle.n41_core.specs.Books.{IsAmple};
 ghost use Rattle.n41_core.specs.State.{State, posted};
 ghost use Rattle.n41_core.specs.Causes.{post_fault};
 ghost use Rattle.n41_core.specs.declared.faults.PostFault.TheVariants as post;
@@ -42,7 +43,7 @@ fn ready(books: &mut Books, caller: u32) -> Result<u64, PostFault>
     ensures ok { IfOk result (λ n. (n ≡ suc (last_number books.old.events caller)) × (post_fault (record { setup = books.old.setup; events = books.old.events }) caller ≡ None)) }
     ensures err { IfErr result (λ f. (f ≡ post.NoMemory) ⊎ (post_fault (record { setup = books.old.setup; events = books.old.events }) caller ≡ Some f)) }
     ensures room { OnOk result (3 ≤ books.new.room) }
-    ensures spare { OnOk result (HasSpare 0 books.new) }
+    ensures spare { OnOk result (IsAmple books.new) }
 {
     let number = next_number(books, caller)?;
     match books.reserve_answers(3) {
@@ -61,7 +62,7 @@ fn note_command(
     copy: EventCopy,
 )
     requires room { 3 ≤ books.old.room }
-    requires spare { HasSpare 0 books.old }
+    requires spare { IsAmple books.old }
     requires built { is_built command ≡ true }
     requires number { number ≡ suc (last_number books.old.events caller) }
     requires moment { moment ≡ last_moment books.old.events }
@@ -114,7 +115,7 @@ fn begin(
     command: Command,
 ) -> Result<Ticket, PostFault>
     requires room { 3 ≤ books.old.room }
-    requires spare { HasSpare 0 books.old }
+    requires spare { IsAmple books.old }
     requires built { is_built command ≡ true }
     requires number { number ≡ suc (last_number books.old.events caller) }
     requires free { post_fault (record { setup = books.old.setup; events = books.old.events }) caller ≡ None }

@@ -61,9 +61,9 @@ fn take(
             reply: reply.clone()?,
         },
     )?;
-    books.reserve_answers(66)?;
+    books.reserve_answers(68)?;
     let _callers = books.setup().callers;
-    books.add(Event::Took { conn, place, reply }, copy);
+    books.take(Event::Took { conn, place, reply }, copy)?;
     settle(books);
     Ok(())
 }

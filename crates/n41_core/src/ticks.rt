@@ -36,7 +36,7 @@ impl Core {
         ensures err { OnErr result (self.new ≡ self.old) }
     {
         let _callers = self.books.setup().callers;
-        self.books.reserve_answers(66)?;
+        self.books.reserve_answers(67)?;
         note_moment(&mut self.books, moment);
         settle(&mut self.books);
         Ok(())

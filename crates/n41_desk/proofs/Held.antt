@@ -117,7 +117,7 @@ met_setup None c s = refl
 met_setup (Some p) c s = refl
 
 posted_setup : (s : State) (c : ℕ) (k : Command) → (posted s c k).setup ≡ s.setup
-posted_setup s c k = met_setup (breach_at s.events) c (begun s c k)
+posted_setup s c k = met_setup (breach_at s.setup.callers s.events) c (begun s c k)
 
 pub posts : {E : Type 0} (r : Result Ticket E) (old between new : State) (m : ℕ) (answers : List Event) (c : ℕ) (k : Command) → Notes old between m answers → IfOk r (λ t. new ≡ posted between c k) → IfOk r (λ t. t ≡ record { caller = c; number = suc (number between.events c) }) → IfOk r (λ t. post_fault between c ≡ None) → IfOk r (λ t. Posts old new c k t)
 posts (Ok t) old between new m answers c k n ok ticket free = record { between = between; at = m; answers = answers; noted = n; free = free; posted_is = ok; ticket_is = ticket }

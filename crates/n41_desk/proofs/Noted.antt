@@ -116,12 +116,12 @@ given_met given None c s g = g
 given_met given (Some p) c s g = g
 
 pub posted_given : (given : ℕ → Bool) (s : State) (c : ℕ) (k : Command) → IsTrue (given (moment s.events)) → AreGiven given (moments s.events) → AreGiven given (moments (posted s c k).events)
-posted_given given s c k t g = given_met given (breach_at s.events) c (record { setup = s.setup; events = Began c (suc (number s.events c)) k (moment s.events) ∷ s.events }) (t, g)
+posted_given given s c k t g = given_met given (breach_at s.setup.callers s.events) c (record { setup = s.setup; events = Began c (suc (number s.events c)) k (moment s.events) ∷ s.events }) (t, g)
 
 pub grows_posted : (s : State) (c : ℕ) (k : Command) → Grows s.events (posted s c k).events
 grows_posted s c k =
     let b : State = record { setup = s.setup; events = Began c (suc (number s.events c)) k (moment s.events) ∷ s.events } in
-    grows_then s.events b.events (posted s c k).events (record { more = Began c (suc (number s.events c)) k (moment s.events) ∷ []; calm = (tt, tt); are = refl }) (grows_met (breach_at s.events) c b)
+    grows_then s.events b.events (posted s c k).events (record { more = Began c (suc (number s.events c)) k (moment s.events) ∷ []; calm = (tt, tt); are = refl }) (grows_met (breach_at s.setup.callers s.events) c b)
 
 -- ---- what a tick answers
 

@@ -3,7 +3,8 @@ ghost use Rattle.n41_types.specs.declared.commands.Answer.{Answer as AnswerValue
 ghost use Rattle.n41_journal.specs.declared.events.Event.{Event as EventValue};
 ghost use Rattle.n41_answers.specs.Answers.{HasAnswer};
 ghost use Rattle.n41_calls.specs.Answers.{breach_at};
-ghost use Rattle.n41_calls.specs.Calls.{command, is_built};
+ghost use Rattle.n41_calls.specs.Calls.{command};
+ghost use Rattle.n41_calls.specs.Walks.{is_built};
 ghost use Rattle.n41_calls.specs.Kept.{Kept};
 ghost use Rattle.n41_model.specs.Requests.{quit, rounds};
 ghost use Rattle.n41_core.specs.Settled.{IsSettled};
@@ -78,7 +79,7 @@ where
 
     /// The place in the journal of the first reply that broke the rules. None where there is none.
     pub fn breach(&self) -> Option<u64>
-        ensures { result ≡ breach_at (desk_state self.now).events }
+        ensures { result ≡ breach_at (desk_state self.now).setup.callers (desk_state self.now).events }
     {
         self.core.breach()
     }

@@ -174,7 +174,7 @@ begun_self s t c k x h =
     let b = h.between in
     let q : (c == c) ≡ true = grind (arith, nat_tests) in
     ap (λ (v : State). begun_by v.events c) h.posted_is
-    ∙ (left_met (breach_at b.events) c (begun b c k)).begun_are c
+    ∙ (left_met (breach_at b.setup.callers b.events) c (begun b c k)).begun_are c
     ∙ pick_same (c == c) (begun_by b.events c ++ k ∷ []) (begun_by b.events c) q
     ∙ ap (λ (ks : List Command). ks ++ k ∷ []) ((left_noted s b h.at h.answers h.noted).begun_are c)
 
@@ -183,7 +183,7 @@ begun_other s t c k x d h i =
     let b = h.between in
     let q : (c == d) ≡ false = grind (arith, nat_tests, i) in
     ap (λ (v : State). begun_by v.events d) h.posted_is
-    ∙ (left_met (breach_at b.events) c (begun b c k)).begun_are d
+    ∙ (left_met (breach_at b.setup.callers b.events) c (begun b c k)).begun_are d
     ∙ pick_other (c == d) (begun_by b.events d ++ k ∷ []) (begun_by b.events d) q
     ∙ (left_noted s b h.at h.answers h.noted).begun_are d
 
@@ -195,11 +195,11 @@ pub posts_begun : (s t : State) (c : ℕ) (k : Command) (x : Ticket) → Posts s
 posts_begun s t c k x h =
     let b = h.between in
     let n = left_noted s b h.at h.answers h.noted in
-    let m = left_met (breach_at b.events) c (begun b c k) in
+    let m = left_met (breach_at b.setup.callers b.events) c (begun b c k) in
     record {
       setup_is = ap (λ (v : State). v.setup) h.posted_is ∙ m.setup_is ∙ n.setup_is;
       quit_is = ap (λ (v : State). quit v.events) h.posted_is ∙ m.quit_is ∙ n.quit_is;
-      failures_are = ap (λ (v : State). failures v.events) h.posted_is ∙ failures_met (breach_at b.events) c (begun b c k) ∙ failures_noted s b h.at h.answers h.noted;
+      failures_are = ap (λ (v : State). failures v.events) h.posted_is ∙ failures_met (breach_at b.setup.callers b.events) c (begun b c k) ∙ failures_noted s b h.at h.answers h.noted;
       held = λ q d. both_ways (quit b.events) (n.quit_is ∙ q) (not_quitting b c h.free);
     }
 

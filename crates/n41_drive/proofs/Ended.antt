@@ -18,9 +18,9 @@ use Rattle.n41_model.specs.declared.words.Phase.{Phase}
 use Rattle.n41_model.specs.declared.words.Phase.TheVariants.{Down, Binding, Session, ClientId, Settling, Reclaiming, Completing, Running, Dead}
 use Rattle.n41_model.specs.declared.words.Verdict.{Verdict}
 use Rattle.n41_model.specs.declared.words.Verdict.TheVariants as v
-use Rattle.n41_calls.specs.Answers.{breaks, breach_at, place_or, round_limit}
+use Rattle.n41_calls.specs.Answers.{breaks, breach_at, misleads, place_or, round_limit}
 use Rattle.n41_calls.specs.Calls.{command, all_answered}
-use Rattle.n41_calls.specs.Due.{finishing, has_ended, is_dead, is_over}
+use Rattle.n41_calls.specs.Due.{finishing, has_ended, is_dead, is_over, phase_now}
 use Rattle.n41_model.specs.Replies.{is_breach, is_bare_breach, verdict_of, bare_verdict_of}
 use Rattle.n41_model.specs.Requests.{quit, rounds, request, retried, verdict, verdict_in, verdict_on, bare_verdict, bare_verdict_on, is_bare_use}
 use Rattle.n41_model.specs.Sessions.{phase, phases, session, client, took_phase, slot_phase, bare_phase, dialed_phase, broke_phase, worked, is_lease_time, plan_of, plan_in}
@@ -136,29 +136,33 @@ record Alive (js : List Event) : Type 0 where
   now : is_dead (phases js).0 ≡ false
   back : is_dead (phases js).1 ≡ false
 
-alive : (js : List Event) → breach_at js ≡ None → Alive js
-alive [] e = record { now = refl; back = refl }
-alive (Dialed c ∷ js) e =
-    let a = alive js e in
-    let n = fresh_alive (phases js).0 (session js) (client js) a.now in
-    record { now = n; back = worked_alive (dialed_phase (phases js).0 (session js) (client js)) (phases js).1 n a.back }
-alive (Broke c w ∷ js) e =
-    let a = alive js e in
-    let n = broke_alive (phases js).0 a.now in
-    record { now = n; back = worked_alive (broke_phase (phases js).0) (phases js).1 n a.back }
-alive (Took c p y ∷ js) e =
-    let f = none_before (breach_at js) (breaks (verdict js y) (bare_verdict js y)) _ e in
-    let a = alive js f.0 in
-    let n = took_alive js y (phases js).0 (phases js).1 f.1 a.now a.back in
-    record { now = n; back = worked_alive (took_phase js y (phases js).0 (phases js).1) (phases js).1 n a.back }
-alive (Began d n k m ∷ js) e = let a = alive js e in record { now = a.now; back = a.back }
-alive (Put c p r ∷ js) e = let a = alive js e in record { now = a.now; back = a.back }
-alive (CbTook c p x ∷ js) e = let a = alive js e in record { now = a.now; back = a.back }
-alive (CbPut c p x ∷ js) e = let a = alive js e in record { now = a.now; back = a.back }
-alive (DialFailed ∷ js) e = let a = alive js e in record { now = a.now; back = a.back }
-alive (Ticked m ∷ js) e = let a = alive js e in record { now = a.now; back = a.back }
-alive (Answered c n x ∷ js) e = let a = alive js e in record { now = a.now; back = a.back }
-alive (Quit ∷ js) e = let a = alive js e in record { now = a.now; back = a.back }
+neither : (a b : Bool) → (a || b) ≡ false → (a ≡ false) × (b ≡ false)
+neither false b e = (refl, e)
+neither true b e = true_false e
+
+alive : (n : ℕ) (js : List Event) → breach_at n js ≡ None → Alive js
+alive k [] e = record { now = refl; back = refl }
+alive k (Dialed c ∷ js) e =
+    let a = alive k js e in
+    let n = fresh_alive k (phases js).0 (session js) (client js) a.now in
+    record { now = n; back = worked_alive k (dialed_phase (phases js).0 (session js) (client js)) (phases js).1 n a.back }
+alive k (Broke c w ∷ js) e =
+    let a = alive k js e in
+    let n = broke_alive k (phases js).0 a.now in
+    record { now = n; back = worked_alive k (broke_phase (phases js).0) (phases js).1 n a.back }
+alive k (Took c p y ∷ js) e =
+    let f = none_before (breach_at k js) (breaks (verdict js y) (bare_verdict js y) || misleads k js y) _ e in
+    let a = alive k js f.0 in
+    let n = took_alive k js y (phases js).0 (phases js).1 f.1 a.now a.back in
+    record { now = n; back = worked_alive k (took_phase js y (phases js).0 (phases js).1) (phases js).1 n a.back }
+alive k (Began d n a m ∷ js) e = let a = alive k js e in record { now = a.now; back = a.back }
+alive k (Put c p r ∷ js) e = let a = alive k js e in record { now = a.now; back = a.back }
+alive k (CbTook c p x ∷ js) e = let a = alive k js e in record { now = a.now; back = a.back }
+alive k (CbPut c p x ∷ js) e = let a = alive k js e in record { now = a.now; back = a.back }
+alive k (DialFailed ∷ js) e = let a = alive k js e in record { now = a.now; back = a.back }
+alive k (Ticked m ∷ js) e = let a = alive k js e in record { now = a.now; back = a.back }
+alive k (Answered c n x ∷ js) e = let a = alive k js e in record { now = a.now; back = a.back }
+alive k (Quit ∷ js) e = let a = alive k js e in record { now = a.now; back = a.back }
 
 -- ---- the end
 
@@ -189,8 +193,9 @@ at_end n js c l e (inl h) = h
 at_end n js c l e (inr g) =
     let reached = g.reached in
     let few : nat_le round_limit (rounds js) ≡ false = grind (arith, nat_tests, reached) in
-    let over = third (is_dead (phase js)) (nat_le round_limit (rounds js)) (finishing n js && is_over js) (alive js g.waits.unbroken).now few e in
-    let done = both (quit js) (all_answered js n) (both (finishing n js) (is_over js) over).0 in
+    let lives : is_dead (phase_now n js) ≡ false = rw g.waits.unbroken (alive n js g.waits.unbroken).now in
+    let over = third (is_dead (phase_now n js)) (nat_le round_limit (rounds js)) (finishing n js && is_over n js) lives few e in
+    let done = both (quit js) (all_answered js n) (both (finishing n js) (is_over n js) over).0 in
     answered js n c done.1 l
 
 pub is_answered : (n : ℕ) (js : List Event) → has_ended n js ≡ true → IsDecided n js → IsAnswered n js

@@ -6,7 +6,7 @@ use Rattle.std.proofs.lemmas.Option.{get_or_from_slice_get}
 use Rattle.std.specs.Prelude.{IsSome}
 use Rattle.n41_types.specs.declared.commands.Command.{Command}
 use Rattle.n41_journal.specs.declared.events.Event.{Event}
-use Rattle.n41_calls.specs.Calls.{is_built}
+use Rattle.n41_calls.specs.Walks.{is_built}
 use Rattle.n41_script.specs.declared.script.ScriptLine.{ScriptLine}
 use Rattle.n41_desk.specs.Journals.{begun_by}
 use Rattle.n41_drive.specs.Drives.{commands_of, AreBuilt, IsNext, HasBegun}

@@ -2,7 +2,8 @@
 use Rattle.std.specs.Prelude.{◌≡◌, ◌<◌, ℕ, ◌==◌, true, List, [], ◌∷◌, take, length, slice_get, slice_index, if◌then◌else◌, IsSome, None, Some}
 use Rattle.n41_types.specs.declared.commands.Command.{Command}
 use Rattle.n41_journal.specs.declared.events.Event.{Event}
-use Rattle.n41_calls.specs.Calls.{command, is_built}
+use Rattle.n41_calls.specs.Calls.{command}
+use Rattle.n41_calls.specs.Walks.{is_built}
 use Rattle.n41_calls.specs.Due.{has_ended}
 use Rattle.n41_model.specs.Requests.{quit}
 use Rattle.n41_script.specs.declared.script.ScriptLine.{ScriptLine}

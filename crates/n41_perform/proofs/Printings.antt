@@ -16,8 +16,8 @@ pub took_part : (old new : Option (List ℕ)) (bytes : List ℕ) → ((n : ℕ) 
 took_part old new bytes h = record { part = take h.0 bytes; more = drop h.0 bytes; cut = sym (take-append-drop h.0 bytes); took = h.1 }
 
 -- the text that was made for a journal and a script
-pub text_is : (law : IsTextOfRun) (bytes : List ℕ) (breach : Option ℕ) (js : List Event) (s : Script) → breach ≡ breach_at js → bytes ≡ script_text breach js s → bytes ≡ text js (script_lines s)
-text_is law bytes breach js s e f = f ∙ ap (λ (b : Option ℕ). script_text b js s) e ∙ law js s
+pub text_is : (law : IsTextOfRun) (n : ℕ) (bytes : List ℕ) (breach : Option ℕ) (js : List Event) (s : Script) → breach ≡ breach_at n js → bytes ≡ script_text breach js s → bytes ≡ text n js (script_lines s)
+text_is law n bytes breach js s e f = f ∙ ap (λ (b : Option ℕ). script_text b js s) e ∙ law n js s
 
 -- why not all of one text was printed is why not all of the same was
 pub fails_as : {T : Type 0} (r : Result T PerformFault) (old new : Option (List ℕ)) (a b : List ℕ) → a ≡ b → IfErr r (λ f. PrintFails f old new a) → IfErr r (λ f. PrintFails f old new b)

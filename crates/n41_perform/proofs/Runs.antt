@@ -30,7 +30,7 @@ whole_none js e = subst (λ (ks : List Event). (setup : Setup) × IsWhole setup 
 
 -- ---- how a run ended
 
-ends_by_rounds : (b : Bool) (given : ℕ → Bool) (s : Script) (js : List Event) (u : Setup) → nat_le round_limit (rounds js) ≡ b → IsMade given s u → IsWhole u js → Driven u.callers js s.lines → breach_at js ≡ None
+ends_by_rounds : (b : Bool) (given : ℕ → Bool) (s : Script) (js : List Event) (u : Setup) → nat_le round_limit (rounds js) ≡ b → IsMade given s u → IsWhole u js → Driven u.callers js s.lines → breach_at u.callers js ≡ None
     → RunsTo (if b then Some (fault.Unreachable round_limit) else None) given s js
 ends_by_rounds true given s js u e m w d n =
     let l : round_limit ≤ rounds js = grind (arith, nat_tests, e) in
@@ -39,18 +39,18 @@ ends_by_rounds false given s js u e m w d n =
     let l : rounds js < round_limit = grind (arith, nat_tests, e) in
     record { setup = u; made = m; whole = w; driven = d; ends = (n, l) }
 
-ends : (b : Option ℕ) (given : ℕ → Bool) (s : Script) (js : List Event) (u : Setup) → breach_at js ≡ b → IsMade given s u → IsWhole u js → Driven u.callers js s.lines → RunsTo (ending b (rounds js)) given s js
+ends : (b : Option ℕ) (given : ℕ → Bool) (s : Script) (js : List Event) (u : Setup) → breach_at u.callers js ≡ b → IsMade given s u → IsWhole u js → Driven u.callers js s.lines → RunsTo (ending b (rounds js)) given s js
 ends (Some p) given s js u e m w d = record { setup = u; made = m; whole = w; driven = d; ends = e }
 ends None given s js u e m w d = ends_by_rounds (nat_le round_limit (rounds js)) given s js u refl m w d e
 
 -- the run of a client that was made at a moment which its clock gave
 pub client_runs : {T E : Type 0} (r : Result T E) (f h : Option PerformFault) (given : ℕ → Bool) (s : Script) (js ks : List Event) (u v : Setup) (n : ℕ) (ls : List ScriptLine) (moment : ℕ)
     → f ≡ h → js ≡ ks → v ≡ u → n ≡ callers_of s → ls ≡ s.lines → given moment ≡ true → IsClientOf s moment u → IsWhole v js
-    → OnOk r (Driven n ks ls) → OnOk r (h ≡ ending (breach_at ks) (rounds ks)) → OnErr r (h ≡ Some fault.NoMemory) → RunsTo f given s js
+    → OnOk r (Driven n ks ls) → OnOk r (h ≡ ending (breach_at u.callers ks) (rounds ks)) → OnErr r (h ≡ Some fault.NoMemory) → RunsTo f given s js
 client_runs (Ok x) f h given s js ks u v n ls moment ef ej ev en el i m w d e k =
     let whole : IsWhole u ks = subst (λ (t : Setup). IsWhole t ks) ev (subst (λ (xs : List Event). IsWhole v xs) ej w) in
     let driven : Driven u.callers ks s.lines = subst (λ (c : ℕ). Driven c ks s.lines) (en ∙ sym m.callers) (subst (λ (xs : List ScriptLine). Driven n ks xs) el d) in
-    let to : RunsTo (ending (breach_at ks) (rounds ks)) given s ks = ends (breach_at ks) given s ks u refl (moment, i, m) whole driven in
+    let to : RunsTo (ending (breach_at u.callers ks) (rounds ks)) given s ks = ends (breach_at u.callers ks) given s ks u refl (moment, i, m) whole driven in
     subst (λ (xs : List Event). RunsTo f given s xs) (sym ej) (subst (λ (o : Option PerformFault). RunsTo o given s ks) (sym (ef ∙ e)) to)
 client_runs (Err x) f h given s js ks u v n ls moment ef ej ev en el i m w d e k = subst (λ (o : Option PerformFault). RunsTo o given s js) (sym (ef ∙ k)) tt
 

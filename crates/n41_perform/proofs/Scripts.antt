@@ -4,7 +4,7 @@ use Rattle.std.proofs.lemmas.Bool.Decides.{nat_tests}
 use Rattle.std.specs.Prelude.{IfOk, nat_le, is_some, codes}
 use Rattle.n41_types.specs.declared.commands.Command.{Command}
 use Rattle.n41_types.specs.declared.commands.Command.TheVariants as command
-use Rattle.n41_calls.specs.Calls.{is_built, is_none_left}
+use Rattle.n41_calls.specs.Walks.{is_built, is_none_left}
 use Rattle.n41_words.specs.Lines.{lines, words, is_skipped, is_empty}
 use Rattle.n41_words.specs.Words.{has_control, same}
 use Rattle.n41_commands.specs.Callers.{is_caller, is_kept}

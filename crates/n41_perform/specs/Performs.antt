@@ -32,14 +32,14 @@ use Rattle.n41_perform.specs.declared.fault.PerformFault.TheVariants as fault
 use Rattle.n41_perform.specs.declared.printing.Print.{Print}
 use Rattle.n41_perform.specs.declared.printing.Print.TheVariants as print
 
--- what is printed of a run: a line for each command of the script, or one for each event, the oldest first
-abbrev pub shown : Print → List Event → Script → List ℕ
-shown print.Answers js s = text js (script_lines s)
-shown print.Journal js s = journal_lines (reverse js)
-
 -- a client for so many callers, at least one
 abbrev pub callers_of : Script → ℕ
 callers_of s = max 1 (length s.callers)
+
+-- what is printed of a run: a line for each command of the script, or one for each event, the oldest first
+abbrev pub shown : Print → List Event → Script → List ℕ
+shown print.Answers js s = text (callers_of s) js (script_lines s)
+shown print.Journal js s = journal_lines (reverse js)
 
 -- the client of a script: its verifier is the moment at which it was made (RFC 8881, section 18.35)
 pub record IsClientOf (s : Script) (moment : ℕ) (u : Setup) : Type 0 where
@@ -107,12 +107,12 @@ abbrev pub fails_to_print : {T : Type 0} → Result T PerformFault → Bool
 fails_to_print (Err fault.WriteFault) = true
 fails_to_print r = false
 
--- how a run ended: all was done, sixteen rounds had no reply, or a reply broke the rules
-abbrev pub EndsAs : Option PerformFault → List Event → Type 0
-EndsAs None js = (breach_at js ≡ None) × (rounds js < round_limit)
-EndsAs (Some (fault.Unreachable n)) js = (breach_at js ≡ None) × (n ≡ round_limit) × (round_limit ≤ rounds js)
-EndsAs (Some (fault.Breach p)) js = breach_at js ≡ Some p
-EndsAs (Some f) js = ⊥
+-- how the run of so many callers ended: all was done, sixteen rounds had no reply, or a reply broke the rules
+abbrev pub EndsAs : ℕ → Option PerformFault → List Event → Type 0
+EndsAs n None js = (breach_at n js ≡ None) × (rounds js < round_limit)
+EndsAs n (Some (fault.Unreachable k)) js = (breach_at n js ≡ None) × (k ≡ round_limit) × (round_limit ≤ rounds js)
+EndsAs n (Some (fault.Breach p)) js = breach_at n js ≡ Some p
+EndsAs n (Some f) js = ⊥
 
 -- the fault of a run, by the first breach and the rounds without a reply
 abbrev pub ending : Option ℕ → ℕ → Option PerformFault
@@ -129,7 +129,7 @@ pub record Runs (given : ℕ → Bool) (s : Script) (js : List Event) (f : Optio
   pub made : IsMade given s setup
   pub whole : IsWhole setup js
   pub driven : Driven setup.callers js s.lines
-  pub ends : EndsAs f js
+  pub ends : EndsAs setup.callers f js
 
 -- the same, unless memory was wanting
 abbrev pub RunsTo : Option PerformFault → (ℕ → Bool) → Script → List Event → Type 0

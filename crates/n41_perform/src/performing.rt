@@ -8,7 +8,7 @@ ghost use Rattle.n41_desk.specs.Journals.{moments};
 ghost use Rattle.n41_desk.specs.Lines.{AreWires};
 ghost use Rattle.n41_desk.specs.Moments.{AreGiven, CountsDials};
 ghost use Rattle.n41_drive.specs.Drives.{AreBuilt};
-ghost use Rattle.n41_perform.specs.Performs.{AlwaysGood, AlwaysOneOut, IsWhole, Outcome, Prints, RunsTo, is_read_fault, is_write_fault};
+ghost use Rattle.n41_perform.specs.Performs.{AlwaysGood, AlwaysOneOut, IsWhole, Outcome, Prints, RunsTo, callers_of, is_read_fault, is_write_fault};
 
 use crate::PerformFault;
 use crate::printing::{Print, show};
@@ -71,7 +71,7 @@ fn print_run<K: Sink>(
     breach: Option<u64>,
     fault: Option<PerformFault>,
 ) -> Option<PerformFault>
-    requires breach { breach ≡ breach_at journal.now.events }
+    requires breach { breach ≡ breach_at (callers_of script.now) journal.now.events }
     requires tellable { AllTellable journal.now.events }
     ensures prints { (given : ℕ → Bool) → RunsTo fault given script.now journal.now.events → Prints shows result given script.now (K.taken sink.old) (K.taken sink.new) journal.now.events }
     ensures writes { (given : ℕ → Bool) → RunsTo fault given script.now journal.now.events → Counts (K.faults sink.old) (K.faults sink.new) (is_write_fault result) }

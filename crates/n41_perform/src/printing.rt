@@ -7,7 +7,7 @@ ghost use Rattle.n41_calls.specs.Answers.{breach_at};
 ghost use Rattle.n41_calls.specs.Text.{text as answers_text};
 ghost use Rattle.n41_report.specs.Text.{script_lines};
 ghost use Rattle.n41_journal_text.specs.Text.{journal_lines};
-ghost use Rattle.n41_perform.specs.Performs.{PrintFails, fails_to_print, shown};
+ghost use Rattle.n41_perform.specs.Performs.{PrintFails, callers_of, fails_to_print, shown};
 
 use crate::PerformFault;
 use n41_journal::Journal;
@@ -47,9 +47,9 @@ fn print_answers<K: Sink>(
     script: &Script,
     breach: Option<u64>,
 ) -> Result<(), PerformFault>
-    requires { breach ≡ breach_at journal.now.events }
-    ensures ok { OnOk result (K.taken sink.new ≡ append_known (K.taken sink.old) (answers_text journal.now.events (script_lines script.now))) }
-    ensures err { IfErr result (λ f. PrintFails f (K.taken sink.old) (K.taken sink.new) (answers_text journal.now.events (script_lines script.now))) }
+    requires { breach ≡ breach_at (callers_of script.now) journal.now.events }
+    ensures ok { OnOk result (K.taken sink.new ≡ append_known (K.taken sink.old) (answers_text (callers_of script.now) journal.now.events (script_lines script.now))) }
+    ensures err { IfErr result (λ f. PrintFails f (K.taken sink.old) (K.taken sink.new) (answers_text (callers_of script.now) journal.now.events (script_lines script.now))) }
     ensures cause { Counts (K.faults sink.old) (K.faults sink.new) (fails_to_print result) }
 {
     the_text_is_that_of_the_run();
@@ -85,7 +85,7 @@ pub(crate) fn show<K: Sink>(
     script: &Script,
     breach: Option<u64>,
 ) -> Result<(), PerformFault>
-    requires breach { breach ≡ breach_at journal.now.events }
+    requires breach { breach ≡ breach_at (callers_of script.now) journal.now.events }
     requires tellable { AllTellable journal.now.events }
     ensures ok { OnOk result (K.taken sink.new ≡ append_known (K.taken sink.old) (shown shows journal.now.events script.now)) }
     ensures err { IfErr result (λ f. PrintFails f (K.taken sink.old) (K.taken sink.new) (shown shows journal.now.events script.now)) }

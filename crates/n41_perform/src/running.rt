@@ -82,7 +82,7 @@ where
     D::O: Drop,
     requires holds { Holds C.given desk }
     ensures fault { result.fault ≡ fault }
-    ensures breach { result.breach ≡ breach_at result.journal.events }
+    ensures breach { result.breach ≡ breach_at (desk_state desk).setup.callers result.journal.events }
     ensures journal { result.journal.events ≡ (desk_state desk).events }
     ensures wires { AreWires result.journal.events result.wires.items }
     ensures given { AreGiven (C.given result.clock) (moments result.journal.events) }
@@ -111,7 +111,7 @@ fn end_of<D: Dialer, C: Clock>(
 where
     D::I: Drop,
     D::O: Drop,
-    ensures ok { OnOk driven (result ≡ ending (breach_at (desk_state desk.now).events) (silent_rounds (desk_state desk.now).events)) }
+    ensures ok { OnOk driven (result ≡ ending (breach_at (desk_state desk.now).setup.callers (desk_state desk.now).events) (silent_rounds (desk_state desk.now).events)) }
     ensures err { OnErr driven (result ≡ Some FaultValue.NoMemory) }
 {
     match driven {
@@ -138,7 +138,7 @@ where
     requires new { core.events ≡ [] }
     requires built { AreBuilt script.now.lines }
     ensures runs { (moment : ℕ) → IsTrue (C.given clock moment) → IsClientOf script.now moment core.setup → RunsTo result.fault (C.given result.clock) script.now result.journal.events }
-    ensures breach { result.breach ≡ breach_at result.journal.events }
+    ensures breach { result.breach ≡ breach_at (callers_of script.now) result.journal.events }
     ensures wires { AreWires result.journal.events result.wires.items }
     ensures given { AreGiven (C.given result.clock) (moments result.journal.events) }
     ensures whole { IsWhole core.setup result.journal.events }
@@ -169,7 +169,7 @@ where
     requires owner { length script.now.owner ≤ 1024 }
     requires built { AreBuilt script.now.lines }
     ensures runs { RunsTo result.fault (C.given result.clock) script.now result.journal.events }
-    ensures breach { result.breach ≡ breach_at result.journal.events }
+    ensures breach { result.breach ≡ breach_at (callers_of script.now) result.journal.events }
     ensures wires { AreWires result.journal.events result.wires.items }
     ensures given { AreGiven (C.given result.clock) (moments result.journal.events) }
     ensures whole { (setup : SetupValue) × IsWhole setup result.journal.events }

@@ -61,7 +61,7 @@ HasNames _ = Unit {0}
 
 -- ---- short requests
 
--- The plans of a session that is made and ended, walks of at most eight names, and what is asked at the end of a walk (own).
+-- The plans of a session that is made and ended, walks of at most eight names, and what is asked at the end of a walk or of a handle (own).
 abbrev pub IsSmall : Plan → Type 0
 IsSmall (plan.ExchangeId _ _) = Unit {0}
 IsSmall (plan.CreateSession _ _) = Unit {0}
@@ -74,7 +74,19 @@ IsSmall plan.Renew = Unit {0}
 IsSmall (plan.Walk from names) = length names ≤ 8
 IsSmall (plan.Stat _) = Unit {0}
 IsSmall (plan.List _ _ _ _) = Unit {0}
+IsSmall (plan.CreateFile _ _ _ _) = Unit {0}
+IsSmall (plan.OpenAt _ _ _ _) = Unit {0}
+IsSmall (plan.Read _ _ _ _) = Unit {0}
+IsSmall (plan.WriteBytes _ _ _ _) = Unit {0}
+IsSmall (plan.Resize _ _ _) = Unit {0}
+IsSmall (plan.Downgrade _ _ _) = Unit {0}
+IsSmall (plan.CloseState _ _) = Unit {0}
 IsSmall (plan.MakeDir _ _) = Unit {0}
 IsSmall (plan.Remove _ _) = Unit {0}
 IsSmall (plan.Rename _ _ _ _) = Unit {0}
 IsSmall _ = ⊥
+
+-- so many bytes such a request has at most: 1,024 beside those that it writes, and otherwise 4,000 (own)
+abbrev pub most_of : Plan → ℕ
+most_of (plan.WriteBytes fh stateid offset bytes) = 1024 + length bytes
+most_of _ = 4000

@@ -7,7 +7,7 @@ ghost use Rattle.n41_results.specs.Shapes.{asked_attrs, asked_of};
 ghost use Rattle.n41_attr.specs.Bitmaps.{has};
 ghost use Rattle.n41_args.specs.Args.{operation_of};
 ghost use Rattle.n41_requests.specs.Plans.{lease_mask, request_args, stat_mask};
-ghost use Rattle.n41_requests.specs.Requests.{spelled, Fits, HasNames, IsSmall};
+ghost use Rattle.n41_requests.specs.Requests.{spelled, most_of, Fits, HasNames, IsSmall};
 
 /// A law: what is spelled of a request has the operations that its results are to answer, and asks for the attributes that these may
 /// tell.
@@ -17,8 +17,8 @@ pub fn what_is_spelled_is_asked()
     ensures lease { (n : ℕ) → has lease_mask n ≡ list_any (λ m. m == n) (asked_attrs plan.LeaseTime) }
 {}
 
-/// A law: the requests by which a session is made, kept and ended, walks of at most eight names, looks, listings, and the making of
-/// directories, removing and renaming have at most 4,000 bytes.
+/// A law: the requests by which a session is made, kept and ended, walks of at most eight names, and what commands ask for at the end of a
+/// walk or of a handle have at most 4,000 bytes, and those that write at most 1,024 beside what they write.
 pub fn small_requests()
-    ensures { (q : Request) → IsSmall q.plan → HasNames q.plan → Fits q → length (spelled q) ≤ 4000 }
+    ensures { (q : Request) → IsSmall q.plan → HasNames q.plan → Fits q → length (spelled q) ≤ most_of q.plan }
 {}

@@ -1,6 +1,6 @@
 ghost use Rattle.std.specs.Prelude.{◌≡◌, ◌++◌, ◌≤◌, IfOk, OnOk, length};
 ghost use Rattle.n41_rpc.specs.Heads.{head, system, system_of, written_call};
-ghost use Rattle.n41_requests.specs.Requests.{call_head, spelled, Fits, IsSmall, IsSpellable};
+ghost use Rattle.n41_requests.specs.Requests.{call_head, most_of, spelled, Fits, IsSmall, IsSpellable};
 
 use crate::writing::write_body;
 use n41_requests::{request_fits, request_has_names};
@@ -63,7 +63,7 @@ fn spell_whole(alloc: Global, q: &Request) -> Result<Bytes, NoMemory>
 pub fn spell(alloc: Global, q: &Request) -> Result<Bytes, NoMemory>
     requires { IsSpellable q.now }
     ensures text { IfOk result (λ bytes. bytes ≡ spelled q.now) }
-    ensures small { IfOk result (λ bytes. IsSmall q.now.plan → length bytes ≤ 4000) }
+    ensures small { IfOk result (λ bytes. IsSmall q.now.plan → length bytes ≤ most_of q.now.plan) }
 {
     request_fits(q);
     request_has_names(q);
