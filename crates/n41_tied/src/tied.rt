@@ -1,8 +1,9 @@
-ghost use Rattle.std.specs.Prelude.{◌≡◌, ◌∷◌, ◌<◌, ◌≤◌, ◌-◌, Some, [], length, IfOk, OnOk, OnErr};
+ghost use Rattle.std.specs.Prelude.{◌≡◌, ◌∷◌, ◌<◌, ◌≤◌, ◌-◌, Some, false, [], length, IfOk, OnOk, OnErr};
 ghost use Rattle.n41_types.specs.declared.commands.Answer.{Answer as AnswerValue};
 ghost use Rattle.n41_journal.specs.declared.events.Event.{Event as EventValue};
 ghost use Rattle.n41_calls.specs.Calls.{call, either};
 ghost use Rattle.n41_calls.specs.Kept.{May, MayAnswer, Kept};
+ghost use Rattle.n41_tables.specs.Copies.{is_took};
 ghost use Rattle.n41_view.specs.View.{view};
 
 use n41_journal::{Event, Journal};
@@ -104,16 +105,33 @@ impl Tied {
         let _journal = &self.journal;
     }
 
-    /// Adds an event that may follow, in the room that was made. The tables move by a copy of it, so that no memory is taken.
+    /// Adds an event that may follow and is no reply, in the room that was made. The tables move by a copy of it, so that no memory is
+    /// taken.
     pub fn add(&mut self, event: Event, copy: EventCopy)
         requires room { 0 < self.old.room }
         requires may { May self.old.setup self.old.events event }
+        requires no_reply { is_took event ≡ false }
         requires copy { copy ≡ event }
         ensures { self.new ≡ record { setup = self.old.setup; events = event ∷ self.old.events; room = self.old.room - 1 } }
     {
         let _count = self.journal.as_slice().len();
         self.journal.add(event);
         self.tables.step(copy);
+    }
+
+    /// Adds any event that may follow, in the room that was made. The tables move by a copy of it first: what a reply tells of a handle may take
+    /// memory there, and where that is wanting nothing changes.
+    pub fn take(&mut self, event: Event, copy: EventCopy) -> Result<(), NoMemory>
+        requires room { 0 < self.old.room }
+        requires may { May self.old.setup self.old.events event }
+        requires copy { copy ≡ event }
+        ensures ok { OnOk result (self.new ≡ record { setup = self.old.setup; events = event ∷ self.old.events; room = self.old.room - 1 }) }
+        ensures err { OnErr result (self.new ≡ self.old) }
+    {
+        let _count = self.journal.as_slice().len();
+        self.tables.take(copy)?;
+        self.journal.add(event);
+        Ok(())
     }
 
     /// Adds the answer to the caller's command of this number, in the room that was made: the late one that is handed over, or where there
@@ -127,8 +145,7 @@ impl Tied {
         ensures { self.new ≡ record { setup = self.old.setup; events = EventValue.Answered caller number given ∷ self.old.events; room = self.old.room - 1 } }
     {
         let _count = self.journal.as_slice().len();
-        let earned = self.tables.answered(caller);
-        let answer = late.or(earned).unwrap();
+        let answer = self.tables.answered(caller, late).unwrap();
         self.journal.add(Event::Answered {
             caller,
             number,
