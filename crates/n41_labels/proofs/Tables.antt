@@ -6,7 +6,9 @@ use Rattle.std.specs.declared.cmp.Ordering.{Ordering}
 use Rattle.std.specs.declared.cmp.Ordering.TheVariants.{Less, Equal, Greater}
 use Rattle.std.specs.Ordering.{nat_cmp, match_ordering}
 use Rattle.std.specs.Cmp.Lexicographic.{pointwise, slice_cmp}
-use Rattle.std.specs.Map.{lookup, remove_entry, set_value}
+use Rattle.std.specs.List.{AllByRecursion}
+use Rattle.std.specs.List.Sorted.{IsStrictlySortedBy}
+use Rattle.std.specs.Map.{keys_of, lookup, remove_entry, set_value}
 use Rattle.std.specs.BTreeMap.{insert_entry, is_at}
 use Rattle.std.proofs.lemmas.Map.Text.{is_eq-slice_cmp}
 use Rattle.n41_labels.specs.Inside.{named}
@@ -54,3 +56,13 @@ absent_by p e es v ih false h l = let f : lookup p es ≡ None = sym (rw h refl)
 pub set_absent : {K X : Type 0} (p : K → Bool) (es : List (K × X)) (v : X) → lookup p es ≡ None → set_value p es v ≡ es
 set_absent p [] v l = refl
 set_absent p (e ∷ es) v l = absent_by p e es v (set_absent p es v) (p e.0) refl l
+
+above_named : (k : Vec ℕ Global) (es : List (Vec ℕ Global × ℕ)) → AllByRecursion (λ y. key_cmp k y ≡ Less) (keys_of es) → AllByRecursion (λ y. slice_cmp nat_cmp k.items y ≡ Less) (keys_of (named es))
+above_named k [] h = tt
+above_named k (e ∷ es) h = (h.0, above_named k es h.1)
+
+-- the labels rise where the keys do
+pub rising_named : (es : List (Vec ℕ Global × ℕ)) → IsStrictlySortedBy key_cmp (keys_of es) → IsStrictlySortedBy (slice_cmp nat_cmp) (keys_of (named es))
+unfolding IsStrictlySortedBy
+rising_named [] h = tt
+rising_named (e ∷ es) h = (above_named e.0 es h.0, rising_named es h.1)

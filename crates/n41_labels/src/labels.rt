@@ -1,7 +1,8 @@
 ghost use Rattle.std.specs.Prelude.{◌≡◌, [], nat_eq, IfOk, OnOk, OnErr};
 ghost use Rattle.std.specs.Ordering.{nat_cmp};
 ghost use Rattle.std.specs.Cmp.Lexicographic.{pointwise, slice_cmp};
-ghost use Rattle.std.specs.Map.{lookup, remove_entry, set_value};
+ghost use Rattle.std.specs.List.Sorted.{IsStrictlySortedBy};
+ghost use Rattle.std.specs.Map.{lookup, keys_of, remove_entry, set_value};
 ghost use Rattle.std.specs.BTreeMap.{insert_entry};
 
 use n41_types::{Label, NoMemory};
@@ -50,9 +51,10 @@ impl Labels {
         self.handles.get(label.as_slice()).copied()
     }
 
-    /// A label names a handle, whatever it named before.
+    /// A label names a handle, whatever it named before. The labels rose before, so that this can be undone.
     pub fn bind(&mut self, label: &Label, handle: u64) -> Result<(), NoMemory>
         ensures ok { OnOk result (self.new ≡ insert_entry (slice_cmp nat_cmp) self.old label.now handle) }
+        ensures rising { OnOk result (IsStrictlySortedBy (slice_cmp nat_cmp) (keys_of self.old)) }
         ensures err { OnErr result (self.new ≡ self.old) }
     {
         let own = own_bytes(self.alloc, label)?;
