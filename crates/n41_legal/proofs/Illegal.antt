@@ -9,7 +9,7 @@ use Rattle.n41_runs.specs.Server.{alive, is_end_of, is_id, is_session, is_there,
 use Rattle.n41_legal.specs.Answers.{is_bare}
 use Rattle.n41_legal.specs.Legality.{IsIllegal, IsLegality}
 use Rattle.n41_legal.proofs.Deciding.{and, both, id_is, is_not}
-use Rattle.n41_legal.proofs.Equal.{session_id_same}
+use Rattle.n41_equal.proofs.Replies.{session_id_same}
 
 -- ---- the first illegal step
 

@@ -1,4 +1,3 @@
-pub mod Equal
 pub mod Deciding
 pub mod Illegal
 pub mod Parts

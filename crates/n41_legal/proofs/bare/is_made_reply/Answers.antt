@@ -1,4 +1,4 @@
-use Rattle.n41_legal.proofs.Equal.{reply_as}
+use Rattle.n41_equal.proofs.Replies.{reply_as}
 use Rattle.n41_legal.proofs.bare.is_made_reply.Goals as goal
 
 pub returns : goal.returns

@@ -1,5 +1,5 @@
 use Rattle.n41_legal.proofs.Deciding.{same, some_is, none_no}
-use Rattle.n41_check.proofs.Equal.{request_is}
+use Rattle.n41_equal.proofs.Requests.{request_is}
 use Rattle.n41_legal.proofs.rules.is_put.Goals as goal
 
 pub returns-in-None : goal.returns-in-None

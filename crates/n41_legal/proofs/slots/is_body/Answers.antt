@@ -1,6 +1,6 @@
 use Rattle.n41_legal.proofs.Deciding.{same, some_is, none_no}
 use Rattle.std.proofs.Common.{sym}
-use Rattle.n41_legal.proofs.Equal.{body_is}
+use Rattle.n41_equal.proofs.Replies.{body_is}
 use Rattle.n41_legal.proofs.slots.is_body.Goals as goal
 
 pub returns-in-None : goal.returns-in-None
