@@ -4,8 +4,8 @@ use crate::names::Path;
 use crate::owners::Label;
 use crate::spans::{LockKind, Mode, Span};
 use crate::statuses::{Loss, Status};
-use n41_texts::Texts;
 use bytes::Bytes;
+use n41_texts::Texts;
 use std::alloc::AllocError;
 
 /// What a caller asks for. A label names the handle that its caller opened last with it.

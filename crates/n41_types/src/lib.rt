@@ -20,6 +20,7 @@ pub use bytes::Bytes;
 pub use commands::{Answer, Command, Value};
 pub use events::{PlanEvent, PlanLine, Plans};
 pub use identities::{Fh, Fhs, SessionId, Stateid, Stateids, Verifier};
+pub use n41_texts::{Gathered, Texts};
 pub use names::{Name, NameFault, Names, Path};
 pub use operations::Operation;
 pub use owners::{Label, Owner};
@@ -27,7 +28,6 @@ pub use plans::{Claim, Class, Locker, Place, Plan, Request, SlotUse};
 pub use sequence::Sequence;
 pub use spans::{LockKind, Mode, Span};
 pub use statuses::{Loss, Status};
-pub use n41_texts::{Gathered, Texts};
 
 /// Want of memory.
 pub type NoMemory = std::alloc::AllocError;

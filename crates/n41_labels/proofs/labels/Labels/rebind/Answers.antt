@@ -11,7 +11,6 @@ use Rattle.n41_labels.proofs.Tables.{set_named, set_absent}
 use Rattle.n41_labels.proofs.labels.Labels.rebind.Goals as goal
 use Rattle.n41_labels.proofs.labels.Labels.rebind.Goals.{in-Some, in_default}
 
-
 pub returns : goal.returns
 returns c = elim c.match-get_mut.branch [
   | in-Some w ↦ rw w.self-inside-is (ap named (c.get_mut.follows.holds c.args.handle).0 ∙ written)
