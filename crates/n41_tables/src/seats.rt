@@ -241,6 +241,8 @@ pub(crate) fn answered_seats(
     ensures given { result ≡ handed_at late (slice_get seats.old caller) }
     ensures seats { IfSome result (λ a. seats.new ≡ map (answered_seat caller a) seats.old) }
     ensures files { IfSome result (λ a. files.new ≡ seat_answered a files.old (slice_get seats.old caller)) }
+    ensures none_seats { result ≡ None → seats.new ≡ seats.old }
+    ensures none_files { result ≡ None → files.new ≡ files.old }
 {
     let index = caller as usize;
     if index >= seats.len() {
