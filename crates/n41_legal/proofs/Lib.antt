@@ -1,0 +1,4 @@
+pub mod Equal
+pub mod Deciding
+pub mod Illegal
+pub mod Parts

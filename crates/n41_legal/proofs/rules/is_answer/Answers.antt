@@ -1,0 +1,10 @@
+use Rattle.n41_legal.proofs.Deciding.{same, some_is, none_no}
+use Rattle.std.proofs.Common.{sym}
+use Rattle.n41_legal.proofs.Equal.{reply_is}
+use Rattle.n41_legal.proofs.rules.is_answer.Goals as goal
+
+pub returns-in-None : goal.returns-in-None
+returns-in-None c = none_no _ c.args.reply.now (sym c.in-None.is)
+
+pub returns-in-Some : goal.returns-in-Some
+returns-in-Some c = some_is _ c.in-Some.made c.args.reply.now c.eq.result (sym c.in-Some.is) (same c.eq.result _ c.eq.ensures (reply_is c.in-Some.made c.args.reply.now))

@@ -1,0 +1,5 @@
+use Rattle.std.proofs.Common.{length}
+use Rattle.n41_legal.proofs.server.+last_made.Given as goal
+
+abbrev pub decreases-last_made : goal.decreases-last_made
+decreases-last_made l = length l.run.now

@@ -1,0 +1,6 @@
+pub mod OneOut
+pub mod Leading
+pub mod Names
+pub mod Counting
+pub mod Answered
+pub mod Judging

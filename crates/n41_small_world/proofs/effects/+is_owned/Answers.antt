@@ -1,0 +1,18 @@
+use Rattle.std.proofs.lemmas.Result.{IfOk-weaker}
+use Rattle.std.proofs.Common.{List, ◌-◌, length, take, drop, sym, ◌∙◌, subst}
+use Rattle.n41_legal.proofs.Parts.{split}
+use Rattle.n41_small_world.proofs.Leading.{before_of}
+use Rattle.std.specs.Bool.{Decides}
+use Rattle.n41_runs.specs.declared.steps.Step.{Step}
+use Rattle.n41_small_world.specs.Promised.{Owned}
+use Rattle.n41_small_world.proofs.effects.+is_owned.Goals as goal
+
+pub returns : goal.returns
+returns t c =
+    let xs = c.args.run.now in
+    let ys = take (length xs - 1) (drop 1 xs) in
+    let st = c.step-item.result in
+    let e = split xs st c.in-len1-up.len_at_least c.step-item.is in
+    IfOk-weaker c.owned_step.result _ _
+    (λ x h n o. subst (λ (v : List Step). Decides x (Owned n v)) (sym e) (h n (before_of xs ys st n e o) (c.in_ok-others.ensures n (before_of xs ys st n e o))))
+    c.owned_step.ensures
