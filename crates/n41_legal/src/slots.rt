@@ -40,18 +40,14 @@ fn tells_unbound(run: &[Step], number: u64, place: SlotUse, status: Status) -> b
     status == Status::CONN_NOT_BOUND_TO_SESSION && !is_bound(run, place.sid, carrier(run, number))
 }
 
-/// Whether the turn is neither the last one nor the next.
-fn is_out_of_turn(turn: u32, last: u32) -> bool
-    ensures { result ≡ is_out_of_turn turn last }
-{
-    turn != last && u64::from(turn) != u64::from(last) + 1
-}
-
-/// Whether the status tells of a turn out of order, and it is.
+/// Whether the status tells of a turn out of order, and it is neither the last one nor the next.
 fn tells_misordered(run: &[Step], place: SlotUse, status: Status) -> bool
     ensures { result ≡ (is_misordered status && is_out_of_turn place.turn (last run.now place.sid place.slot)) }
 {
-    status == Status::SEQ_MISORDERED && is_out_of_turn(place.turn, last(run, place.sid, place.slot))
+    let last = last(run, place.sid, place.slot);
+    status == Status::SEQ_MISORDERED
+        && place.turn != last
+        && u64::from(place.turn) != u64::from(last) + 1
 }
 
 /// Whether SEQUENCE may answer this status to a request with this use of a slot.
