@@ -1,29 +1,20 @@
 -- The tests of the rules decide them.
-use Rattle.std.proofs.Common.{◌≡◌, ◌≢◌, ◌⊎◌, inl, inr, ℕ, suc, ◌+◌, ◌==◌, Bool, true, false, ◌&&◌, ◌||◌, not, List, [], ◌∷◌, Option, Some, None, refl, sym, ◌∙◌, ap, subst, add-one, true≢false}
+use Rattle.std.proofs.Common.{◌≡◌, ◌⊎◌, inl, inr, ℕ, ◌==◌, Bool, true, false, ◌&&◌, ◌||◌, not, List, Option, Some, None, refl, sym, ◌∙◌, ap, subst, true≢false}
 use Rattle.std.specs.Prelude.{is_none, is_some}
 use Rattle.std.specs.Bool.{Decides}
 use Rattle.std.proofs.lemmas.Bool.Decides.{Decides-eqb}
-use Rattle.n41_types.specs.declared.identities.SessionId.{SessionId}
-use Rattle.n41_types.specs.declared.plans.Plan.{Plan}
 use Rattle.n41_types.specs.declared.plans.Request.{Request}
 use Rattle.n41_types.specs.declared.plans.SlotUse.{SlotUse}
-use Rattle.n41_types.specs.declared.statuses.Status.{Status}
 use Rattle.n41_results.specs.declared.replies.Reply.{Reply}
-use Rattle.n41_results.specs.declared.replies.ReplyBody.{ReplyBody}
 use Rattle.n41_results.specs.declared.results.Res.{Res}
-use Rattle.n41_results.specs.declared.sessions.Bound.{Bound}
-use Rattle.n41_results.specs.declared.sessions.Identity.{Identity}
 use Rattle.n41_results.specs.declared.sessions.Sequenced.{Sequenced}
-use Rattle.n41_results.specs.declared.sessions.SessionMade.{SessionMade}
 use Rattle.n41_results.specs.Results.{ok}
 use Rattle.n41_results.specs.Shapes.{shape_of}
-use Rattle.n41_model.specs.Replies.{has_its_answer, is_ok, is_uncached, is_wide_enough, repeats}
-use Rattle.n41_model.specs.Requests.{standing}
+use Rattle.n41_model.specs.Replies.{has_its_answer, is_ok, is_uncached, repeats}
 use Rattle.n41_runs.specs.declared.steps.Step.{Step}
-use Rattle.n41_runs.specs.declared.steps.Step.TheVariants.{Does, Takes, Runs, Repeats, Refuses, Names, Makes, Binds, Ends}
-use Rattle.n41_runs.specs.Steps.{carrier, client, end_status, fate, made_reply, message, ran_reply, taken}
-use Rattle.n41_runs.specs.Server.{alive, confirmed, is_id, is_there, kept, last, last_made, next_sequence, was_made, was_named}
-use Rattle.n41_runs.specs.Rules.{Allowed, IsRun, MakesAgain, MakesNext, MayBeTaken, MayMakeAgain, MayRepeat, MayRun, NamesAgain, Pending, Sizes, is_last, is_uncached_body}
+use Rattle.n41_runs.specs.Steps.{end_status, ran_reply}
+use Rattle.n41_runs.specs.Server.{alive, is_id, kept, last}
+use Rattle.n41_runs.specs.Rules.{IsRun, MayRepeat, Sizes, is_uncached_body}
 
 -- ---- tests
 

@@ -2,22 +2,13 @@
 use Rattle.std.proofs.Common.{◌≡◌, ◌≢◌, ℕ, ◌+◌, Bool, true, false, not, ◌&&◌, ◌||◌, if◌then◌else◌, List, [], ◌∷◌, length, Option, Some, None, refl, sym, ◌∙◌, ap, subst, true≢false}
 use Rattle.std.specs.Bool.{Decides}
 use Rattle.n41_types.specs.declared.identities.SessionId.{SessionId}
-use Rattle.n41_types.specs.declared.plans.Plan.{Plan}
-use Rattle.n41_types.specs.declared.plans.Plan.TheVariants as plan
-use Rattle.n41_types.specs.declared.plans.Request.{Request}
-use Rattle.n41_results.specs.declared.replies.Reply.{Reply}
-use Rattle.n41_results.specs.declared.sessions.Identity.{Identity}
-use Rattle.n41_results.specs.declared.sessions.SessionMade.{SessionMade}
-use Rattle.n41_journal.specs.declared.events.Event.{Event}
-use Rattle.n41_journal.specs.declared.events.Event.TheVariants.{Began, Put, Took, CbTook, CbPut, Dialed, DialFailed, Broke, Ticked, Answered, Quit}
-use Rattle.n41_results.specs.declared.callbacks.CbCall.{CbCall}
 use Rattle.n41_runs.specs.declared.steps.Step.{Step}
 use Rattle.n41_runs.specs.declared.steps.Step.TheVariants.{Does, Takes, Runs, Repeats, Refuses, Names, Makes, Binds, Ends}
-use Rattle.n41_runs.specs.Rules.{Allowed, EndsClient, IsNoReply, LegalBy, MayBind, MayEnd, MayMake, MayMakeAgain, MayName, Sizes}
+use Rattle.n41_runs.specs.Rules.{Allowed, EndsClient, Sizes}
 use Rattle.n41_runs.specs.Server.{alive, is_end_of, is_id, is_session, is_there, made_for}
 use Rattle.n41_legal.specs.Answers.{is_bare}
 use Rattle.n41_legal.specs.Legality.{IsIllegal, IsLegality}
-use Rattle.n41_legal.proofs.Deciding.{and, both, id_is, is_not, never, or_left, or_right, to_not}
+use Rattle.n41_legal.proofs.Deciding.{and, both, id_is, is_not}
 use Rattle.n41_legal.proofs.Equal.{session_id_same}
 
 -- ---- the first illegal step

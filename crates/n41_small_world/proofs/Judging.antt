@@ -1,10 +1,10 @@
 -- What is said of a run from what is found in it.
-use Rattle.std.proofs.Common.{◌≡◌, ◌≢◌, ℕ, zero, suc, ◌≤◌, ◌<◌, Bool, true, false, List, Option, Some, None, All, IsSome, refl, sym, ◌∙◌, ap, subst, arith, true≢false}
+use Rattle.std.proofs.Common.{◌≡◌, ◌≢◌, ℕ, zero, suc, ◌≤◌, ◌<◌, Bool, false, List, Option, Some, None, IsSome, refl, sym, ◌∙◌, ap, arith, true≢false}
 use Rattle.std.specs.Bool.{Decides}
 use Rattle.std.specs.Prelude.{is_some}
 use Rattle.n41_types.specs.declared.commands.Answer.{Answer}
 use Rattle.n41_types.specs.declared.commands.Answer.TheVariants as says
-use Rattle.n41_model.specs.OneOut.{OneOut, Orderly}
+use Rattle.n41_model.specs.OneOut.{Orderly}
 use Rattle.n41_model.specs.Text.{answer_to}
 use Rattle.n41_check.specs.Rules.{callers}
 use Rattle.n41_check.specs.declared.machine.Machine.{Machine}

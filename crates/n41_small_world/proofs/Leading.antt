@@ -1,16 +1,13 @@
 -- The machine is led through a run.
-use Rattle.std.proofs.Common.{◌≡◌, ◌≢◌, ℕ, suc, ◌+◌, ◌≤◌, ◌<◌, Bool, true, false, List, [], ◌∷◌, length, Option, Some, None, refl, sym, ◌∙◌, ap, subst, arith}
-use Rattle.n41_types.specs.declared.plans.Request.{Request}
-use Rattle.n41_types.specs.declared.commands.Answer.{Answer}
+use Rattle.std.proofs.Common.{◌≡◌, ◌≢◌, ℕ, ◌≤◌, ◌<◌, Bool, true, false, List, [], ◌∷◌, length, Option, Some, None, refl, sym, subst, arith}
 use Rattle.n41_results.specs.declared.replies.Reply.{Reply}
 use Rattle.n41_journal.specs.declared.events.Event.{Event}
 use Rattle.n41_journal.specs.declared.events.Event.TheVariants.{Began, Put, Took, CbTook, CbPut, Dialed, DialFailed, Broke, Ticked, Answered, Quit}
 use Rattle.n41_model.specs.OneOut.{Orderly}
 use Rattle.n41_model.specs.Requests.{out, outs}
-use Rattle.n41_check.specs.Rules.{Keeps, callers}
+use Rattle.n41_check.specs.Rules.{callers}
 use Rattle.n41_check.specs.Shows.{IsTried, Moves, Shows}
 use Rattle.n41_check.specs.declared.machine.Machine.{Machine}
-use Rattle.n41_check.specs.declared.rules.Rule.TheVariants.{Slots}
 use Rattle.n41_check.proofs.Rows.{IsLone, lone_length}
 use Rattle.n41_check.proofs.Walked.{is_tried}
 use Rattle.n41_runs.specs.declared.steps.Step.{Step}

@@ -1,21 +1,18 @@
 -- A request that goes as it should, and what stays of an orderly journal.
-use Rattle.std.proofs.Common.{◌≡◌, ◌≢◌, ◌⊎◌, inl, inr, ℕ, suc, ◌+◌, ◌≤◌, ◌==◌, Bool, true, false, ◌&&◌, not, List, [], ◌∷◌, length, Option, Some, None, if◌then◌else◌, refl, sym, ◌∙◌, ap, subst, arith, add-one, true≢false}
+use Rattle.std.proofs.Common.{◌≡◌, ◌≢◌, ◌⊎◌, inl, inr, ℕ, suc, ◌+◌, ◌≤◌, ◌==◌, Bool, true, false, ◌&&◌, not, List, [], ◌∷◌, length, Option, Some, None, refl, sym, ◌∙◌, ap, subst, arith, add-one, true≢false}
 use Rattle.std.proofs.lemmas.Bool.Decides.{Decides-eqb, nat_tests}
 use Rattle.std.specs.Bool.{Decides}
 use Rattle.std.specs.Prelude.{is_some, option_to_list, unwrap_or}
-use Rattle.n41_types.specs.declared.commands.Answer.{Answer}
 use Rattle.n41_types.specs.declared.plans.Request.{Request}
 use Rattle.n41_types.specs.declared.plans.SlotUse.{SlotUse}
-use Rattle.n41_results.specs.declared.replies.Reply.{Reply}
 use Rattle.n41_journal.specs.declared.events.Event.{Event}
 use Rattle.n41_journal.specs.declared.events.Event.TheVariants.{Began, Put, Took, CbTook, CbPut, Dialed, DialFailed, Broke, Ticked, Answered, Quit}
 use Rattle.n41_model.specs.OneOut.{IsOrderly, IsOrderlyBare, IsOrderlyOn, OneOut, Orderly}
-use Rattle.n41_model.specs.Requests.{bare_waits, bares, has_xid, is_bare_use, is_on, is_use_of, is_waiting, joined, knows, made, out, outs, sent, slot_number, used, without}
-use Rattle.n41_model.specs.Replies.{is_final}
+use Rattle.n41_model.specs.Requests.{bare_waits, bares, has_xid, is_use_of, is_waiting, joined, knows, out, outs, sent, used, without}
 use Rattle.n41_model.specs.declared.words.Sent.{Sent}
 use Rattle.n41_model.specs.declared.words.Sent.TheVariants.{Never, Waits, Delayed, Unbound}
-use Rattle.n41_check.specs.Rows.{Row, has, row_of}
-use Rattle.n41_check.proofs.Rows.{IsLone, lone_length, put_lone, slot_is, took_lone}
+use Rattle.n41_check.specs.Rows.{has}
+use Rattle.n41_check.proofs.Rows.{IsLone, lone_length, put_lone, took_lone}
 use Rattle.n41_legal.proofs.Deciding.{and, both, is_not, to_not}
 
 -- ---- on a slot

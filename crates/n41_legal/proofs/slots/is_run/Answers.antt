@@ -3,7 +3,7 @@ use Rattle.std.specs.Prelude.{is_none}
 use Rattle.n41_results.specs.declared.replies.Reply.{Reply}
 use Rattle.n41_results.specs.Shapes.{shape_of}
 use Rattle.n41_types.specs.declared.statuses.Status.{Status}
-use Rattle.std.specs.Prelude.{Bool, ◌||◌, not}
+use Rattle.std.specs.Prelude.{◌||◌, not}
 use Rattle.n41_model.specs.Replies.{has_its_answer, is_ok, is_uncached}
 use Rattle.n41_legal.proofs.Deciding.{run_is, same}
 use Rattle.n41_legal.proofs.slots.is_run.Goals as goal

@@ -1,5 +1,5 @@
 use Rattle.std.proofs.lemmas.Result.{IfOk-weaker}
-use Rattle.std.proofs.Common.{List, ◌-◌, length, take, drop, sym, ◌∙◌, subst}
+use Rattle.std.proofs.Common.{List, ◌-◌, length, take, drop, sym, subst}
 use Rattle.n41_legal.proofs.Parts.{split}
 use Rattle.n41_small_world.proofs.Leading.{before_of}
 use Rattle.n41_runs.specs.declared.steps.Step.{Step}
