@@ -1,5 +1,5 @@
 -- What a step of the server answers.
-use Rattle.std.specs.Prelude.{ℕ, Bool, true, ◌&&◌, not, List, [], ◌∷◌, Option, Some, None}
+use Rattle.std.specs.Prelude.{ℕ, Bool, true, false, ◌&&◌, not, List, [], ◌∷◌, Option, Some, None}
 use Rattle.n41_results.specs.declared.replies.Reply.{Reply}
 use Rattle.n41_runs.specs.declared.steps.Step.{Step}
 use Rattle.n41_runs.specs.declared.steps.Step.TheVariants.{Does, Takes, Runs, Repeats, Refuses, Names, Makes, Binds, Ends}
@@ -29,6 +29,14 @@ answer_of (Names k r i) = Some (named_reply r i)
 answer_of (Makes k r m) = Some (made_reply r m)
 answer_of (Binds k r b) = Some (bound_reply r b)
 answer_of (Ends k r) = Some (ended_reply r)
+
+-- the server served a request without a slot
+abbrev pub is_bare_step : Step → Bool
+is_bare_step (Names k r i) = true
+is_bare_step (Makes k r m) = true
+is_bare_step (Binds k r b) = true
+is_bare_step (Ends k r) = true
+is_bare_step st = false
 
 -- none of the sessions that these steps made, and that are there after the run, is one of the client id
 abbrev pub is_bare : List Step → List Step → ℕ → Bool

@@ -171,26 +171,20 @@ pub(crate) fn may_end(run: &[Step], plan: &Plan) -> bool
     }
 }
 
-/// Whether the sequence is neither the next nor one whose reply is kept.
-fn misorders(run: &[Step], client: u64, sequence: u32) -> bool
-    ensures { result ≡ misorders run.now client sequence }
-{
-    let next = next_sequence(run, client);
-    sequence != next && !(is_last(sequence, next) && last_made(run, client).is_some())
-}
-
-/// Whether a CREATE_SESSION may be refused with this status.
+/// Whether a CREATE_SESSION may be refused with this status. A sequence is out of order that is neither the next nor one whose reply is kept.
 fn create_refuses(run: &[Step], client: u64, sequence: u32, status: Status) -> bool
     ensures { result ≡ plan_refuses run.now (plan.CreateSession client sequence) status }
 {
     if status == Status::DELAY {
         return true;
     }
-    if is_there(run, client) {
-        status == Status::SEQ_MISORDERED && misorders(run, client, sequence)
-    } else {
-        status == Status::STALE_CLIENTID
+    if !is_there(run, client) {
+        return status == Status::STALE_CLIENTID;
     }
+    let next = next_sequence(run, client);
+    status == Status::SEQ_MISORDERED
+        && sequence != next
+        && !(is_last(sequence, next) && last_made(run, client).is_some())
 }
 
 /// Whether a request with this plan may be refused with this status.

@@ -1,9 +1,10 @@
-ghost use Rattle.std.specs.Prelude.{◌≡◌, is_some, IfOk, Some, None};
+ghost use Rattle.std.specs.Prelude.{◌≡◌, true, is_some, IfOk, Some, None};
 ghost use Rattle.std.specs.Bool.{Decides};
 ghost use Rattle.n41_model.specs.Requests.{standing};
 ghost use Rattle.n41_runs.specs.Steps.{client, fate, message};
 ghost use Rattle.n41_runs.specs.declared.steps.Step.TheVariants.{Runs, Repeats, Refuses};
-ghost use Rattle.n41_runs.specs.Rules.{Allowed, IsNoReply, MayBeTaken, MayBind, MayEnd, MayMake, MayName, Pending, refuses_by};
+ghost use Rattle.n41_runs.specs.Rules.{Allowed, IsNoReply, MayBeTaken, MayBind, MayEnd, MayMake, MayName, Pending, refuses_by, Sizes};
+ghost use Rattle.n41_legal.specs.Answers.{is_bare_step};
 ghost use Rattle.n41_legal.specs.Legality.{sizes_of, IsLegality};
 
 use crate::bare::{may_bind, may_end, may_make, may_make_again, may_name, plan_refuses};
@@ -215,6 +216,31 @@ fn ends(alloc: Global, run: &[Step], number: u64, request: &Request) -> Result<b
     Ok(pending && request.slot.is_none() && ends)
 }
 
+/// Whether a step that serves a request without a slot may follow these.
+fn serves_bare(alloc: Global, run: &[Step], step: &Step) -> Result<bool, NoMemory>
+    ensures { IfOk result (λ b. (sizes : Sizes) → is_bare_step step.now ≡ true → Decides b (Allowed sizes run.now step.now)) }
+{
+    match step {
+        Step::Names {
+            message,
+            request,
+            identity,
+        } => names(alloc, run, *message, request, identity),
+        Step::Makes {
+            message,
+            request,
+            made,
+        } => makes(alloc, run, *message, request, *made),
+        Step::Binds {
+            message,
+            request,
+            ..
+        } => binds(alloc, run, *message, request),
+        Step::Ends { message, request } => ends(alloc, run, *message, request),
+        _ => Ok(false),
+    }
+}
+
 /// Whether a step may follow these, where the sizes are the first that are told of a request.
 pub(crate) fn may_follow(
     alloc: Global,
@@ -251,22 +277,9 @@ pub(crate) fn may_follow(
             request,
             status,
         } => refuses(alloc, sizes, run, *message, request, *status),
-        Step::Names {
-            message,
-            request,
-            identity,
-        } => names(alloc, run, *message, request, identity),
-        Step::Makes {
-            message,
-            request,
-            made,
-        } => makes(alloc, run, *message, request, *made),
-        Step::Binds {
-            message,
-            request,
-            ..
-        } => binds(alloc, run, *message, request),
-        Step::Ends { message, request } => ends(alloc, run, *message, request),
+        Step::Names { .. } | Step::Makes { .. } | Step::Binds { .. } | Step::Ends { .. } => {
+            serves_bare(alloc, run, step)
+        }
     }
 }
 
