@@ -1,8 +1,9 @@
 -- How changes lead from one seqid to another.
-use Rattle.std.proofs.Common.{◌≡◌, ◌≢◌, ◌⊎◌, ◌↔◌, inl, inr, ℕ, zero, suc, ◌+◌, ◌<◌, ◌≤◌, refl, ap, subst, sym, ◌∙◌, arith}
+use Rattle.std.proofs.Common.{◌≡◌, ◌≢◌, ◌↔◌, inl, inr, ℕ, zero, suc, ◌+◌, ◌-◌, ◌<◌, ◌≤◌, nat_le, arith}
 use Rattle.std.proofs.lemmas.Bool.Decides.{nat_tests}
-use Rattle.std.proofs.lemmas.Bool.{cases_lt}
-use Rattle.n41_seqid.specs.Seqids.{next, after, IsNewer}
+use Rattle.std.proofs.lemmas.Bool.{cases_lt, and_parts, and_from, leb-true, le-leb}
+use Rattle.std.specs.Bool.{Decides}
+use Rattle.n41_seqid.specs.Seqids.{next, after, IsNewer, distance, is_newer}
 
 next_up : (a : ℕ) → a < 4294967295 → next a ≡ suc a
 next_up a l = grind (arith, nat_tests)
@@ -62,3 +63,25 @@ counted a b c n k v o q e = elim (cases_lt 4294967295 (n + b)) [
 -- so a count tells what is newer
 pub counts_tell : (a b c : ℕ) → 1 ≤ a → a ≤ 4294967295 → b ≤ 4294967295 → Counts a b c → ((1 ≤ c) × (c ≤ 2147483647)) ↔ IsNewer a b
 counts_tell a b c i j k v = (λ p. newer_from a b c i j k v p.0 p.1, λ m. counted a b c m.1.0 k v m.0 m.1.1 m.1.2)
+
+-- and the distance is such a count
+counts_up : (a b : ℕ) → b ≤ a → distance b a ≡ a - b
+counts_up a b l = grind (arith, nat_tests, l)
+
+counts_around : (a b : ℕ) → a < b → distance b a ≡ 4294967295 + a - b
+counts_around a b l = grind (arith, nat_tests, l)
+
+counts : (a b : ℕ) → b ≤ 4294967295 → Counts a b (distance b a)
+counts a b k = record {
+  up = λ l. (let e = counts_up a b l in omega (arith, e));
+  around = λ l. (let e = counts_around a b l in omega (arith, e));
+}
+
+-- so the test decides what is newer
+pub is_newer_decides : (a b : ℕ) → 1 ≤ a → a ≤ 4294967295 → b ≤ 4294967295 → Decides (is_newer a b) (IsNewer a b)
+is_newer_decides a b i j k =
+    let c = distance b a in
+    let t = counts_tell a b c i j k (counts a b k) in (
+      λ e. (let p = and_parts (nat_le 1 c) (nat_le c 2147483647) e in t.0 (leb-true 1 c p.0, leb-true c 2147483647 p.1)),
+      λ m. (let p = t.1 m in and_from (nat_le 1 c) (nat_le c 2147483647) (le-leb 1 c p.0) (le-leb c 2147483647 p.1)),
+    )

@@ -1,11 +1,10 @@
 -- The first item with a seqid, by its place.
-use Rattle.std.proofs.Common.{◌≡◌, ◌≢◌, ◌+◌, inl, inr, length, get_or, ℕ, zero, suc, ◌<◌, ◌≤◌, ◌==◌, Bool, true, false, List, [], ◌∷◌, ◌++◌, Option, Some, None, cond, slice_get, slice_index_or, nat_eq, refl, sym, ◌∙◌, ap, subst, arith}
-use Rattle.std.specs.Bool.{Decides}
+use Rattle.std.proofs.Common.{◌≡◌, ◌≢◌, ◌+◌, inl, inr, length, get_or, ℕ, zero, suc, ◌<◌, ◌≤◌, true, false, List, [], ◌∷◌, Some, None, slice_get, nat_eq, refl, sym, ◌∙◌, ap, arith}
 use Rattle.std.specs.Map.{lookup, remove_entry}
 use Rattle.std.specs.List.{remove}
-use Rattle.std.proofs.lemmas.Bool.{ne_eqb, eq-eqb, cases_lt}
-use Rattle.n41_seqid.specs.Fronts.{Window, IsNew, IsPlaceOf, waits, popped}
-use Rattle.n41_seqid.specs.Seqids.{next, IsNewer}
+use Rattle.std.proofs.lemmas.Bool.{ne_eqb, eq-eqb, cases_lt, and_right}
+use Rattle.n41_seqid.specs.Fronts.{Window, is_new, IsPlaceOf, waits, popped}
+use Rattle.n41_seqid.specs.Seqids.{next, is_newer}
 use Rattle.std.proofs.lemmas.Option.{get_or_from_slice_get, slice_get-get_or}
 
 -- none of the items has the seqid
@@ -52,13 +51,11 @@ moved w n p =
     let b : remove_entry (nat_eq (next w.at)) w.waiting ≡ remove w.waiting n = removed (next w.at) w.waiting n y p.item.1 p.first in
     rw a (ap (λ ws. record { at = next w.at; waiting = ws }) (sym b))
 
--- a seqid is new where it is newer and nothing waits with it
-pub new_by : {T : Type 0} (w : Window T) (s : ℕ) (b : Bool) → Decides b (IsNewer s w.at) → lookup (nat_eq s) w.waiting ≡ None → Decides b (IsNew w s)
-new_by w s b d n = (λ e. (d.0 e, n), λ i. d.1 i.0)
-
-pub not_new : {T : Type 0} (w : Window T) (s n : ℕ) → IsPlaceOf s w.waiting n → Decides false (IsNew w s)
+-- a seqid with which an item waits is not new
+pub not_new : {T : Type 0} (w : Window T) (s n : ℕ) → IsPlaceOf s w.waiting n → false ≡ is_new w s
 not_new w s n p =
-    (λ e. absurd (cc), λ i. absurd (let f = found s w.waiting n p.item.0 p.item.1 p.first in let g = i.1 in cc))
+    let f : waits w s ≡ Some p.item.0 = found s w.waiting n p.item.0 p.item.1 p.first in
+    rw f (sym (and_right (is_newer s w.at) false refl))
 
 -- ---- the search
 

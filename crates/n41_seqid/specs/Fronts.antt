@@ -1,9 +1,9 @@
 -- Items that wait for their turn, by the seqids with which they came (own).
-use Rattle.std.specs.Prelude.{◌≡◌, ◌≢◌, ◌<◌, ◌≤◌, ℕ, zero, suc, List, [], ◌∷◌, ◌++◌, length, Result, Ok, Err, Option, None, Some, nat_eq, slice_get, ⊤}
+use Rattle.std.specs.Prelude.{◌≡◌, ◌≢◌, ◌<◌, ◌≤◌, ℕ, zero, suc, Bool, true, false, ◌&&◌, List, [], ◌∷◌, ◌++◌, length, Result, Ok, Err, Option, None, Some, is_none, nat_eq, slice_get, ⊤}
 use Rattle.std.specs.Map.{lookup, remove_entry}
 use Rattle.n41_seqid.specs.declared.front.SeqFault.{SeqFault}
 use Rattle.n41_seqid.specs.declared.front.SeqFault.TheVariants.{Twice, NoMemory}
-use Rattle.n41_seqid.specs.Seqids.{next, IsNewer}
+use Rattle.n41_seqid.specs.Seqids.{next, is_newer}
 
 -- the seqid to which a front has come, and the items that wait with their seqids, in the order in which they came
 pub record Window (T : Type 0) : Type 0 where
@@ -20,8 +20,8 @@ abbrev pub waits : {T : Type 0} → Window T → ℕ → Option T
 waits w s = lookup (nat_eq s) w.waiting
 
 -- a seqid is newer than the front, and nothing waits with it
-abbrev pub IsNew : {T : Type 0} → Window T → ℕ → Type 0
-IsNew w s = IsNewer s w.at × (waits w s ≡ None)
+abbrev pub is_new : {T : Type 0} → Window T → ℕ → Bool
+is_new w s = is_newer s w.at && is_none (waits w s)
 
 -- a window once an item waits behind the others
 abbrev pub added : {T : Type 0} → Window T → ℕ → T → Window T
@@ -52,9 +52,9 @@ pub record Adds {T : Type 0} (q : Roomy T) (s : ℕ) (x : T) (r : Roomy T) : Typ
 -- what an item and its seqid get: they wait where the seqid is new, or else come back as told twice; for want of memory they come back only
 -- where there was no room
 abbrev pub PutGives : {T : Type 0} → Roomy T → ℕ → T → Result ⊤ (SeqFault T) → Roomy T → Type 0
-PutGives q s x (Ok _) r = IsNew q.window s × Adds q s x r
-PutGives q s x (Err (Twice t y)) r = (IsNew q.window s → ⊥) × (t ≡ s) × (y ≡ x) × (r ≡ q)
-PutGives q s x (Err (NoMemory y)) r = IsNew q.window s × (q.room ≡ 0) × (y ≡ x) × (r ≡ q)
+PutGives q s x (Ok _) r = (is_new q.window s ≡ true) × Adds q s x r
+PutGives q s x (Err (Twice t y)) r = (is_new q.window s ≡ false) × (t ≡ s) × (y ≡ x) × (r ≡ q)
+PutGives q s x (Err (NoMemory y)) r = (is_new q.window s ≡ true) × (q.room ≡ 0) × (y ≡ x) × (r ≡ q)
 
 -- the first item with a seqid stands at a place
 pub record IsPlaceOf {T : Type 0} (s : ℕ) (ws : List (ℕ × T)) (n : ℕ) : Type 0 where

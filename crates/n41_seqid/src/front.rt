@@ -1,8 +1,7 @@
-ghost use Rattle.std.specs.Prelude.{◌≡◌, ◌≢◌, ◌≤◌, [], suc, length, None, Some, IfOk, IfSome, IfNone, OnOk, OnErr, nat_eq};
-ghost use Rattle.std.specs.Bool.{Decides};
+ghost use Rattle.std.specs.Prelude.{◌≡◌, ◌≢◌, ◌≤◌, true, [], suc, length, None, Some, IfOk, IfSome, IfNone, OnOk, OnErr, nat_eq};
 ghost use Rattle.std.specs.Map.{lookup};
 ghost use Rattle.n41_seqid.specs.Seqids.{next};
-ghost use Rattle.n41_seqid.specs.Fronts.{Roomy, Window, IsNew, Adds, PutGives, IsPlaceOf, waits, popped, drained};
+ghost use Rattle.n41_seqid.specs.Fronts.{Roomy, Window, is_new, Adds, PutGives, IsPlaceOf, waits, popped, drained};
 
 use crate::{newer, next};
 use std::alloc::{AllocError, Global};
@@ -70,7 +69,7 @@ impl<T: Drop> Front<T> {
     /// Whether an item with this seqid may wait: it is newer than the front, and none waits with it.
     pub fn is_new(&self, seqid: u32) -> bool
         requires { seqid ≢ 0 }
-        ensures { Decides result (IsNew self.now.window seqid) }
+        ensures { result ≡ is_new self.now.window seqid }
     {
         match place_of(self.waiting.as_slice(), seqid) {
             Some(_place) => false,
@@ -106,7 +105,7 @@ impl<T: Drop> Front<T> {
 
     /// An item waits with its new seqid, in the room that was made.
     pub fn put_reserved(&mut self, seqid: u32, item: T)
-        requires new { IsNew self.old.window seqid }
+        requires new { is_new self.old.window seqid ≡ true }
         requires room { 1 ≤ self.old.room }
         ensures { Adds self.old seqid item self.new }
     {
@@ -141,7 +140,9 @@ impl<T: Drop> Front<T> {
         ensures room { self.old.room ≤ self.new.room }
     {
         for _turn in 0..self.waiting() {
-            drop(self.pop());
+            if self.pop().is_none() {
+                return;
+            }
         }
     }
 

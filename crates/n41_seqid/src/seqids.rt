@@ -1,6 +1,6 @@
-ghost use Rattle.std.specs.Prelude.{◌≡◌, ◌≢◌, ◌<◌, ◌≤◌, ◌+◌};
+ghost use Rattle.std.specs.Prelude.{◌≡◌, ◌≢◌};
 ghost use Rattle.std.specs.Bool.{Decides};
-ghost use Rattle.n41_seqid.specs.Seqids.{next, IsNewer};
+ghost use Rattle.n41_seqid.specs.Seqids.{next, distance, is_newer, IsNewer};
 
 /// How many changes lead to a newer seqid at most.
 const HALF: u32 = 0x7FFF_FFFF;
@@ -14,10 +14,9 @@ pub fn next(a: u32) -> u32
 }
 
 /// How many changes lead from one seqid to another, over the greatest where need be.
-fn changes(from: u32, to: u32) -> u32
+fn distance(from: u32, to: u32) -> u32
     requires { from ≢ 0 }
-    ensures up { from ≤ to → result + from ≡ to }
-    ensures around { to < from → result + from ≡ 4294967295 + to }
+    ensures { result ≡ distance from to }
 {
     if from <= to {
         to - from
@@ -26,12 +25,21 @@ fn changes(from: u32, to: u32) -> u32
     }
 }
 
+/// Whether the distance from b to a is one of a newer seqid.
+fn is_ahead(a: u32, b: u32) -> bool
+    requires { b ≢ 0 }
+    ensures { result ≡ is_newer a b }
+{
+    let changes = distance(b, a);
+    1 <= changes && changes <= HALF
+}
+
 /// Whether a is newer than b: at least one change, and at most 2^31 - 1, lead from b to a.
 pub fn newer(a: u32, b: u32) -> bool
     requires of { a ≢ 0 }
     requires than { b ≢ 0 }
-    ensures { Decides result (IsNewer a b) }
+    ensures value { result ≡ is_newer a b }
+    ensures meaning { Decides result (IsNewer a b) }
 {
-    let changes = changes(b, a);
-    1 <= changes && changes <= HALF
+    is_ahead(a, b)
 }

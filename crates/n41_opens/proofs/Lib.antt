@@ -1,0 +1,9 @@
+pub mod After
+pub mod Attach
+pub mod Counts
+pub mod Lists
+pub mod Moves
+pub mod Settles
+pub mod Steps
+pub mod Tables
+pub mod Tallies

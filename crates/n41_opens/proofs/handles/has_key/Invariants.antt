@@ -1,0 +1,9 @@
+use Rattle.std.proofs.Common.{◌≡◌}
+use Rattle.n41_opens.specs.Opens.{has_key}
+use Rattle.n41_opens.proofs.handles.has_key.Given as goal
+
+abbrev pub invariant-loop-number : goal.invariant-loop-number
+invariant-loop-number l =
+    (goal.iterator-loop-number).can_next l._number-iterator ×
+    (goal.iterator-loop-number).is_finite l._number-iterator ×
+    (has_key l._number-iterator l.key ≡ has_key l.handles.entries l.key)

@@ -1,0 +1,4 @@
+pub mod Modes
+pub mod Ids
+pub mod Opens
+pub mod Inside
