@@ -229,7 +229,7 @@ counts_are hs rs n v h = record { counted = λ q k. v.counted q k ∙ h q k; som
 pub tallied_of : (hs : List (ℕ × Open)) (rs : List (RecordId × Record)) → IsCounted hs rs → Tallied rs (count hs)
 tallied_of hs rs i = record { counted = i.counted; some = i.some }
 
-weight_is : (q : RecordId) (k : Mode) (o : Open) → weight q k o ≡ part o.id o.mode q k
+pub weight_is : (q : RecordId) (k : Mode) (o : Open) → weight q k o ≡ part o.id o.mode q k
 weight_is q k o = ap (λ (b : Bool). one (b && is_mode k o.mode)) (laws.symm q o.id)
 
 pub gone_count : (hs : List (ℕ × Open)) (h : ℕ) (o : Open) (q : RecordId) (k : Mode) → lookup (is_number h) hs ≡ Some o → count hs q k - part o.id o.mode q k ≡ count (without hs h) q k

@@ -1,7 +1,9 @@
 pub mod After
+pub mod Anew
 pub mod Attach
 pub mod Counts
 pub mod Lists
+pub mod Seats
 pub mod Steps
 pub mod Tables
 pub mod Tallies

@@ -50,7 +50,7 @@ told_seen rs r = ap (λ o. unwrap_or o untold) (through_lookup told_in (is_id r)
 
 -- ---- a record that is written in its place
 
-seen_same : (rs : List (RecordId × Record)) (r : RecordId) (c d : Record) → lookup (is_id r) rs ≡ Some c → told_in d ≡ told_in c → seen (set_value (is_id r) rs d) ≡ seen rs
+pub seen_same : (rs : List (RecordId × Record)) (r : RecordId) (c d : Record) → lookup (is_id r) rs ≡ Some c → told_in d ≡ told_in c → seen (set_value (is_id r) rs d) ≡ seen rs
 seen_same rs r c d e t = through_set told_in (is_id r) rs d ∙ set_value_same (is_id r) (seen rs) (told_in d) (through_lookup told_in (is_id r) rs ∙ (ap (λ o. option_map told_in o) e ∙ ap (λ o. Some o) (sym t)))
 
 pub ready_by : (rs ss : List (RecordId × Record)) (r : RecordId) (s : ℕ) (c d : Record) (g : Result ⊤ AttachFault) → IsStrictlySortedBy id_cmp (keys_of rs) → lookup (is_id r) rs ≡ Some c → ss ≡ set_value (is_id r) rs d → WidenGives c s g d → ReadyGives rs r s g ss

@@ -1,5 +1,5 @@
 -- What is inside the opens, and what contracts see of them.
-use Rattle.std.specs.Prelude.{◌≡◌, ℕ, ◌+◌, ◌-◌, ◌<◌, ◌≤◌, ◌^◌, nat_lt, Bool, true, false, ◌&&◌, List, map, Option, None, Some, IsSome, Result, Ok, Err, if◌then◌else◌, sum_by, ⊤}
+use Rattle.std.specs.Prelude.{◌≡◌, ℕ, ◌+◌, ◌-◌, ◌<◌, ◌≤◌, ◌^◌, nat_lt, Bool, true, false, ◌&&◌, List, [], ◌∷◌, map, filter, Option, None, Some, IsSome, is_some, Result, Ok, Err, if◌then◌else◌, sum_by, ⊤}
 use Rattle.std.specs.Map.{lookup, keys_of, values_of, remove_entry, set_value}
 use Rattle.std.specs.BTreeMap.{insert_entry}
 use Rattle.std.specs.List.Sorted.{IsStrictlySortedBy}
@@ -15,7 +15,7 @@ use Rattle.n41_opens.specs.declared.modes.Tally.{Tally}
 use Rattle.n41_opens.specs.declared.records.Record.{Record}
 use Rattle.n41_opens.specs.declared.opens.Opens.TheInside.{Inside}
 use Rattle.n41_opens.specs.Ids.{id_cmp, is_id}
-use Rattle.n41_opens.specs.Opens.{Told, Table, is_change, untold, heard}
+use Rattle.n41_opens.specs.Opens.{Told, Table, is_change, untold, told_to, heard, has}
 
 -- ---- how many handles a record has in each mode
 
@@ -147,6 +147,43 @@ discarded_by rs r (Some u) = rs
 -- the records without this one, where it has no handle
 abbrev pub discarded : List (RecordId × Record) → RecordId → List (RecordId × Record)
 discarded rs r = discarded_by rs r (union_of (tally_in rs r))
+
+-- ---- handles counted anew
+
+-- a record that was told all up to a seqid stands among the records
+pub record Resets (rs : List (RecordId × Record)) (r : RecordId) (s : ℕ) (c : Record) (ss : List (RecordId × Record)) : Type 0 where
+  pub told : told_in c ≡ told_to s
+  pub tally : c.tally ≡ tally_in rs r
+  pub entries : ss ≡ insert_entry id_cmp rs r c
+  pub at : (q : RecordId) → lookup (is_id q) ss ≡ (if is_id r q then Some c else lookup (is_id q) rs)
+
+abbrev pub turned_by : (Mode → Tally → Tally) → List (RecordId × Record) → Open → Option Record → List (RecordId × Record)
+turned_by f rs o None = rs
+turned_by f rs o (Some c) = set_value (is_id o.id) rs (record c { tally = f o.mode c.tally })
+
+-- the number of handles of an open's record is turned into another, and so for each handle in turn
+abbrev pub turned : (Mode → Tally → Tally) → List (RecordId × Record) → Open → List (RecordId × Record)
+turned f rs o = turned_by f rs o (lookup (is_id o.id) rs)
+
+abbrev pub all_turned : (Mode → Tally → Tally) → List (RecordId × Record) → List (ℕ × Open) → List (RecordId × Record)
+all_turned f rs [] = rs
+all_turned f rs (e ∷ es) = all_turned f (turned f rs e.1) es
+
+-- the records that count a handle
+abbrev pub held : List (RecordId × Record) → List (RecordId × Record)
+held rs = filter (λ e. is_some (union_of e.1.tally)) rs
+
+-- each record counts these handles
+abbrev pub AreCounts : List (ℕ × Open) → List (RecordId × Record) → Type 0
+AreCounts hs rs = (r : RecordId) (m : Mode) → amount m (tally_in rs r) ≡ count hs r m
+
+-- the record of each handle is there
+abbrev pub AreThere : List (ℕ × Open) → List (RecordId × Record) → Type 0
+AreThere hs rs = (r : RecordId) → has hs r ≡ true → IsSome (lookup (is_id r) rs)
+
+-- each handle has this record, or one that some of these others have
+abbrev pub KeepsRecords : List (ℕ × Open) → RecordId → List (ℕ × Open) → Type 0
+KeepsRecords hs r gs = (q : RecordId) → is_id q r ≡ false → has hs q ≡ false → has gs q ≡ false
 
 -- ---- what the calls on records give
 

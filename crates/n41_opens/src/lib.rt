@@ -7,6 +7,7 @@ mod ids;
 mod modes;
 mod opens;
 mod records;
+mod recount;
 #[cfg(test)]
 mod tests;
 

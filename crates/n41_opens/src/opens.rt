@@ -1,21 +1,18 @@
-ghost use Rattle.std.specs.Prelude.{◌≡◌, ◌≢◌, ◌<◌, ◌^◌, [], length, None, true, false, IfOk, IfErr, OnOk, OnErr, is_some, option_map, option_copied, unwrap_or};
+ghost use Rattle.std.specs.Prelude.{◌≡◌, ◌≢◌, [], IfOk, OnOk, OnErr, is_some, option_map, option_copied, unwrap_or};
 ghost use Rattle.std.specs.Bool.{Decides};
-ghost use Rattle.std.specs.Ordering.{nat_cmp};
-ghost use Rattle.std.specs.Map.{keys_of};
-ghost use Rattle.std.specs.List.Sorted.{IsStrictlySortedBy};
-ghost use Rattle.n41_opens.specs.Opens.{Table, AttachGives, changed_in, applied_in, need_beside, open_of, seated, is_marked, forgotten, with_mark, shrink_by, shrink_in, stateid_at, entry_after, told_row};
+ghost use Rattle.n41_opens.specs.Opens.{Table, AttachGives, changed_in, applied_in, need_beside, open_of, is_marked, has_key, forgotten, with_mark, with_handles, telling, told_to, refreshed, reclaimed, shrink_by, shrink_in, stateid_at, entry_after, told_row};
+ghost use Rattle.n41_opens.specs.Inside.{KeepsRecords};
 
+use crate::handles::{Handles, has_key, is_marked, moved_all, seat, seat_all};
 use crate::modes::{is_less, joined};
 use crate::records::{Records, change, discard, join, leave, needs, ready, stateid_in};
+use crate::recount::{recount, restart};
 use crate::{AttachFault, Open, RecordId, RecordKey, Shrink};
 use n41_types::{Mode, NoMemory, Stateid};
-use std::alloc::{AllocError, Global};
+use std::alloc::Global;
 use std::collections::BTreeMap;
 use std::marker::Model;
 use std::ops::Bound;
-
-/// The handles by their numbers.
-type Handles = BTreeMap<u64, Open>;
 
 /// The open records of a client. Contracts see its handles by rising number, and the records that they have with what is told of each.
 #[derive(Drop)]
@@ -48,39 +45,6 @@ fn shrink_by(others: Option<Mode>, mode: Mode, stateid: Stateid) -> Shrink
         Shrink::Downgrade(need, stateid)
     } else {
         Shrink::Keep
-    }
-}
-
-/// Whether the close of a handle began.
-fn is_marked(handles: &Handles, handle: u64) -> bool
-    ensures { result ≡ is_marked (open_of handles.now.entries handle) }
-{
-    let Some(held) = handles.get(&handle) else {
-        return false;
-    };
-    held.closing
-}
-
-/// A handle has a record in a mode; what it had before.
-fn seat(
-    handles: &mut Handles,
-    handle: u64,
-    id: RecordId,
-    mode: Mode,
-) -> Result<Option<Open>, NoMemory>
-    ensures old { IfOk result (λ o. o ≡ open_of handles.old.entries handle) }
-    ensures ok { OnOk result (handles.new.entries ≡ seated handles.old.entries handle id mode) }
-    ensures err { OnErr result (handles.new.entries ≡ handles.old.entries) }
-    ensures ordered { IsStrictlySortedBy nat_cmp (keys_of handles.old.entries) }
-    ensures few { length handles.old.entries < 2 ^ 63 }
-{
-    let count = handles.len();
-    prove!(count < usize::MAX);
-    let closing = is_marked(handles, handle);
-    let held = Open { id, mode, closing };
-    match handles.insert(handle, held) {
-        Ok(old) => Ok(old),
-        Err(_failed) => Err(AllocError),
     }
 }
 
@@ -241,5 +205,59 @@ impl Opens {
         };
         leave(&mut self.records, &held.id, held.mode);
         true
+    }
+
+    /// Other handles are there, each with this record or one that a handle had, and this record was told all changes up to a seqid.
+    fn resettle(&mut self, seats: Handles, id: &RecordId, seqid: u32) -> Result<(), NoMemory>
+        requires seqid { seqid ≢ 0 }
+        requires records { KeepsRecords self.old.handles id.now seats.entries }
+        ensures ok { OnOk result (self.new ≡ with_handles seats.entries (telling self.old.records id.now (told_to seqid))) }
+        ensures err { OnErr result (self.new ≡ self.old) }
+    {
+        restart(self.alloc, &mut self.records, id, seqid)?;
+        recount(&mut self.records, &self.handles, &seats);
+        self.handles = seats;
+        Ok(())
+    }
+
+    /// A record was opened anew in another session (RFC 8881, section 8.4.2.1): all handles of its key have the record of this stateid, and its
+    /// changes are told up to that. False exactly where the key has no handle.
+    pub fn refresh(&mut self, rec: &RecordKey, s: Stateid) -> Result<bool, NoMemory>
+        requires { s.seqid ≢ 0 }
+        ensures value { IfOk result (λ b. b ≡ has_key self.old.handles rec.now) }
+        ensures table { OnOk result (self.new ≡ refreshed self.old (record { key = rec.now; other = s.other }) s.seqid) }
+        ensures err { OnErr result (self.new ≡ self.old) }
+    {
+        let other = s.other;
+        let id = RecordId {
+            key: rec.clone()?,
+            other,
+        };
+        let seats = moved_all(self.alloc, &self.handles, &id)?;
+        let any = has_key(&self.handles, rec);
+        self.resettle(seats, &id, s.seqid)?;
+        Ok(any)
+    }
+
+    /// A file was opened again after a restart of the server (RFC 8881, section 8.4.2.1): these handles have the record of this stateid in their
+    /// modes, and its changes are told up to that. They leave the records that they had.
+    pub fn reclaimed(
+        &mut self,
+        rec: &RecordKey,
+        s: Stateid,
+        handles: &[(u64, Mode)],
+    ) -> Result<(), NoMemory>
+        requires { s.seqid ≢ 0 }
+        ensures ok { OnOk result (self.new ≡ reclaimed self.old (record { key = rec.now; other = s.other }) s.seqid handles.now) }
+        ensures err { OnErr result (self.new ≡ self.old) }
+    {
+        let other = s.other;
+        let id = RecordId {
+            key: rec.clone()?,
+            other,
+        };
+        let mut seats = self.handles.clone()?;
+        seat_all(&mut seats, &id, handles)?;
+        self.resettle(seats, &id, s.seqid)
     }
 }

@@ -38,6 +38,29 @@ impl Record {
         })
     }
 
+    /// A record that was told all changes up to a seqid, and that no handle has.
+    pub(crate) fn told_to(alloc: Global, seqid: u32) -> Result<Record, AllocError>
+        requires { seqid ≢ 0 }
+        ensures told { IfOk result (λ c. told_in c ≡ told_to seqid) }
+        ensures tally { IfOk result (λ c. c.tally ≡ nothing) }
+    {
+        Ok(Record {
+            front: Front::new(alloc, seqid, 1)?,
+            begun: true,
+            tally: Tally::nothing(),
+        })
+    }
+
+    /// All changes are told up to a seqid, and what waits behind others is forgotten.
+    pub(crate) fn settle(&mut self, seqid: u32)
+        requires { seqid ≢ 0 }
+        ensures told { told_in self.new ≡ told_to seqid }
+        ensures tally { self.new.tally ≡ self.old.tally }
+    {
+        self.front.reset(seqid);
+        self.begun = true;
+    }
+
     /// A change is told by its seqid, in the room that was made.
     pub(crate) fn hear(&mut self, seqid: u32)
         requires new { is_new self.old.front.window seqid ≡ true }
