@@ -220,7 +220,9 @@ pub none_left : (hs : List (ℕ × Open)) (rs ss : List (RecordId × Record)) �
 none_left hs rs ss i e q k = ap (λ x. amount k (tally_in x q)) e ∙ lost rs hs i q k
 
 anew : (hs gs : List (ℕ × Open)) (rs : List (RecordId × Record)) → AreCounts hs rs → AreThere gs rs → AreCounts gs (all_turned more (all_turned fewer rs hs) gs)
-anew hs gs rs i t q k = gained (all_turned fewer rs hs) gs (λ p m. 0) (lost rs hs i) (λ p u. stays rs (all_turned fewer rs hs) (seen_all fewer rs hs) p (t p u)) q k
+anew hs gs rs i t q k =
+    let h = gained (all_turned fewer rs hs) gs (λ p m. 0) (lost rs hs i) (λ p u. stays rs (all_turned fewer rs hs) (seen_all fewer rs hs) p (t p u)) q k in
+    omega (arith, h)
 
 pub recounted : (hs gs : List (ℕ × Open)) (rs ss us ts : List (RecordId × Record)) → AreCounts hs rs → AreThere gs rs → ss ≡ all_turned fewer rs hs → us ≡ all_turned more ss gs → IsStrictlySortedBy id_cmp (keys_of us) → ts ≡ held us → IsCounted gs ts
 recounted hs gs rs ss us ts i t e f s g =
@@ -279,7 +281,7 @@ reset_there_by hs gs rs ss r s c q i v w u false false f g = absurd (
 pub reset_there : (hs gs : List (ℕ × Open)) (rs ss : List (RecordId × Record)) (r : RecordId) (s : ℕ) (c : Record) → IsCounted hs rs → Resets rs r s c ss → KeepsRecords hs r gs → AreThere gs ss
 reset_there hs gs rs ss r s c i v w q u = reset_there_by hs gs rs ss r s c q i v w u (is_id q r) (has hs q) refl refl
 
-pub resettled : (hs gs : List (ℕ × Open)) (rs ss ts : List (RecordId × Record)) (r : RecordId) (s : ℕ) (c : Record) → Resets rs r s c ss → seen ts ≡ filter (λ e. has gs e.0) (seen ss) → ◌≡◌ {A = Table} (record { handles = gs; records = seen ts }) (with_handles gs (telling (seen rs) r (told_to s)))
-resettled hs gs rs ss ts r s c v e =
+pub resettled : (gs : List (ℕ × Open)) (rs ss ts : List (RecordId × Record)) (r : RecordId) (s : ℕ) (c : Record) → Resets rs r s c ss → seen ts ≡ filter (λ e. has gs e.0) (seen ss) → ◌≡◌ {A = Table} (record { handles = gs; records = seen ts }) (with_handles gs (telling (seen rs) r (told_to s)))
+resettled gs rs ss ts r s c v e =
     let f : seen ss ≡ telling (seen rs) r (told_to s) = ap (λ es. seen es) v.entries ∙ (through_insert told_in id_cmp rs r c ∙ ap (λ (z : Told). insert_entry id_cmp (seen rs) r z) v.told) in
     ap (λ (es : List (RecordId × Told)). record { handles = gs; records = es }) (e ∙ ap (λ es. filter (λ d. has gs d.0) es) f)

@@ -1,5 +1,5 @@
 -- Handles that have other records: which records they may have, and a list of handles that is copied one by one.
-use Rattle.std.proofs.Common.{◌≡◌, ℕ, Bool, true, false, cond, ◌||◌, List, [], ◌∷◌, ◌++◌, map, refl, sym, ◌∙◌, ap, subst, append_assoc}
+use Rattle.std.proofs.Common.{◌≡◌, ℕ, Bool, true, false, cond, ◌||◌, List, [], ◌∷◌, ◌++◌, map, Result, Ok, Err, OnOk, refl, sym, ◌∙◌, ap, subst, append_assoc}
 use Rattle.std.specs.declared.cmp.Ordering.{Ordering}
 use Rattle.std.specs.declared.cmp.Ordering.TheVariants.{Less, Equal, Greater}
 use Rattle.std.specs.Ordering.{nat_cmp}
@@ -13,7 +13,7 @@ use Rattle.n41_types.specs.declared.spans.Mode.{Mode}
 use Rattle.n41_opens.specs.declared.ids.RecordId.{RecordId}
 use Rattle.n41_opens.specs.declared.handles.Open.{Open}
 use Rattle.n41_opens.specs.Ids.{is_key, is_id}
-use Rattle.n41_opens.specs.Opens.{has, is_marked, open_of, seated, all_seated, moved}
+use Rattle.n41_opens.specs.Opens.{Table, has, is_marked, open_of, seated, all_seated, moved, with_handles, telling, told_to, reclaimed}
 use Rattle.n41_opens.specs.Inside.{KeepsRecords}
 
 -- ---- which records they have
@@ -49,6 +49,20 @@ moved_keeps (e ∷ es) r q n m =
     let p = neither (is_id q e.1.id) (has es q) m in
     let f : is_id q (moved r e.1).id ≡ false = moved_by r q e.1 n p.0 (is_key r.key e.1.id.key) refl in
     rw f (moved_keeps es r q n p.1)
+
+-- handles that are equal to others have their records
+pub keeps : (t : Table) (gs fs : List (ℕ × Open)) (r : RecordId) → gs ≡ fs → KeepsRecords t.handles r fs → KeepsRecords t.handles r gs
+keeps t gs fs r e k = subst (λ es. KeepsRecords t.handles r es) (sym e) k
+
+on_ok : {A E : Type 0} {P Q : Type 0} (g : Result A E) → (P → Q) → OnOk g P → OnOk g Q
+on_ok (Ok x) f p = f p
+on_ok (Err x) f p = tt
+
+reclaimed_is : (t u : Table) (is gs : List (ℕ × Open)) (q r : RecordId) (s : ℕ) (es : List (ℕ × Mode)) → q ≡ r → is ≡ t.handles → gs ≡ all_seated is q es → u ≡ with_handles gs (telling t.records q (told_to s)) → u ≡ reclaimed t r s es
+reclaimed_is t u is gs q r s es e f g h = h ∙ (ap (λ x. with_handles x (telling t.records q (told_to s))) (g ∙ ap (λ y. all_seated y q es) f) ∙ ap (λ (x : RecordId). reclaimed t x s es) e)
+
+pub reclaims : {A E : Type 0} (t u : Table) (is gs : List (ℕ × Open)) (q r : RecordId) (s : ℕ) (es : List (ℕ × Mode)) (g : Result A E) → q ≡ r → is ≡ t.handles → gs ≡ all_seated is q es → OnOk g (u ≡ with_handles gs (telling t.records q (told_to s))) → OnOk g (u ≡ reclaimed t r s es)
+reclaims t u is gs q r s es g e f k h = on_ok g (reclaimed_is t u is gs q r s es e f k) h
 
 -- ---- a copy, one by one
 

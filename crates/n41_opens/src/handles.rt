@@ -113,12 +113,7 @@ fn moved(held: &Open, id: &RecordId) -> Result<Open, NoMemory>
 }
 
 /// Adds it under the number of the handle.
-fn add_moved(
-    seats: &mut Handles,
-    handle: u64,
-    held: &Open,
-    id: &RecordId,
-) -> Result<(), NoMemory>
+fn add_moved(seats: &mut Handles, handle: u64, held: &Open, id: &RecordId) -> Result<(), NoMemory>
     ensures { OnOk result (seats.new.entries ≡ insert_entry nat_cmp seats.old.entries handle (moved id.now held.now)) }
 {
     let copy = moved(held, id)?;

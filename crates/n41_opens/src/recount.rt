@@ -14,12 +14,7 @@ use crate::{Open, RecordId};
 use std::alloc::{AllocError, Global};
 
 /// Adds a record that was told all up to a seqid, and that no handle has.
-fn begin(
-    alloc: Global,
-    records: &mut Records,
-    id: &RecordId,
-    seqid: u32,
-) -> Result<(), AllocError>
+fn begin(alloc: Global, records: &mut Records, id: &RecordId, seqid: u32) -> Result<(), AllocError>
     requires seqid { seqid ≢ 0 }
     requires absent { lookup (is_id id.now) records.old.entries ≡ None }
     ensures ok { OnOk result ((c : Record) × Resets records.old.entries id.now seqid c records.new.entries) }

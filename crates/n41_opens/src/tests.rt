@@ -1,4 +1,4 @@
-ghost use Rattle.std.specs.Prelude.{◌≡◌, ◌≢◌, ◌<◌, ◌≤◌, length};
+ghost use Rattle.std.specs.Prelude.{◌≡◌, ◌≢◌, ◌<◌, ◌^◌};
 
 use crate::{AttachFault, Opens, RecordKey, Shrink};
 use n41_types::{Bytes, Fh, Mode, NoMemory, Owner, Stateid};
@@ -11,13 +11,13 @@ fn stateid(other: u8, seqid: u32) -> Stateid
     Stateid { seqid, other }
 }
 
-fn key(alloc: Global) -> Result<RecordKey, NoMemory> {
+fn key(alloc: Global, file: &[u8]) -> Result<RecordKey, NoMemory> {
     let owner = Owner::new(Bytes::copy_from_slice(alloc, b"o")?);
-    let fh = Fh::new(Bytes::copy_from_slice(alloc, b"/a")?);
+    let fh = Fh::new(Bytes::copy_from_slice(alloc, file)?);
     Ok(RecordKey { owner, fh })
 }
 
-/// An open of a handle that is answered: None for want of memory, or else the seqid that was told twice, and 0 where none was.
+/// An open of a handle on /a that is answered: None for want of memory, or else the seqid that was told twice, and 0 where none was.
 fn attach(
     opens: &mut Opens,
     alloc: Global,
@@ -28,7 +28,22 @@ fn attach(
 ) -> Option<u32>
     requires { seqid ≢ 0 }
 {
-    let Ok(rec) = key(alloc) else {
+    attach_to(opens, alloc, b"/a", handle, other, seqid, mode)
+}
+
+/// The same on another file.
+fn attach_to(
+    opens: &mut Opens,
+    alloc: Global,
+    file: &[u8],
+    handle: u64,
+    other: u8,
+    seqid: u32,
+    mode: Mode,
+) -> Option<u32>
+    requires { seqid ≢ 0 }
+{
+    let Ok(rec) = key(alloc, file) else {
         return None;
     };
     match opens.attach(handle, rec, stateid(other, seqid), mode) {
@@ -146,37 +161,42 @@ fn closed(
     Some((sent, last))
 }
 
-/// What the first of two closes sends, where its handle has mode a and the other has mode b.
-fn first_sends(a: Mode, b: Mode) -> Shrink {
-    if a == b || b == Mode::Both {
-        return Shrink::Keep;
+const PAIRS: [(Mode, Mode, Option<Mode>); 9] = [
+    (Mode::Read, Mode::Read, None),
+    (Mode::Read, Mode::Write, Some(Mode::Write)),
+    (Mode::Read, Mode::Both, None),
+    (Mode::Write, Mode::Read, Some(Mode::Read)),
+    (Mode::Write, Mode::Write, None),
+    (Mode::Write, Mode::Both, None),
+    (Mode::Both, Mode::Read, Some(Mode::Read)),
+    (Mode::Both, Mode::Write, Some(Mode::Write)),
+    (Mode::Both, Mode::Both, None),
+];
+
+/// What two closes send, by what the first is downgraded to.
+fn sends(less: Option<Mode>) -> (Option<Shrink>, Option<Shrink>) {
+    match less {
+        None => (Some(Shrink::Keep), Some(Shrink::Close(stateid(7, 2)))),
+        Some(mode) => (
+            Some(Shrink::Downgrade(mode, stateid(7, 2))),
+            Some(Shrink::Close(stateid(7, 3))),
+        ),
     }
-    Shrink::Downgrade(b, stateid(7, 2))
 }
 
-fn last_sends(first: Shrink) -> Shrink {
-    match first {
-        Shrink::Keep => Shrink::Close(stateid(7, 2)),
-        _ => Shrink::Close(stateid(7, 3)),
-    }
-}
-
+/// The mode of the handle that closes first, that of the other, and what the first close downgrades to.
 #[test]
 fn each_pair_of_modes_closes_in_each_order(rt: HostRuntime) {
-    for a in [Mode::Read, Mode::Write, Mode::Both] {
-        for b in [Mode::Read, Mode::Write, Mode::Both] {
-            let mut opens = Opens::new(rt.alloc());
-            let sent = first_sends(a, b);
-            assert_eq!(rt;
-                closed(rt.alloc(), &mut opens, a, b, 1),
-                Some((Some(sent), Some(last_sends(sent))))
-            );
-            let other = first_sends(b, a);
-            assert_eq!(rt;
-                closed(rt.alloc(), &mut opens, a, b, 2),
-                Some((Some(other), Some(last_sends(other))))
-            );
-        }
+    for (first, other, less) in PAIRS {
+        let mut opens = Opens::new(rt.alloc());
+        assert_eq!(rt;
+            closed(rt.alloc(), &mut opens, first, other, 1),
+            Some(sends(less))
+        );
+        assert_eq!(rt;
+            closed(rt.alloc(), &mut opens, other, first, 2),
+            Some(sends(less))
+        );
     }
 }
 
@@ -234,4 +254,155 @@ fn handles_are_listed_and_marked(rt: HostRuntime) {
         Some(([Some(4), Some(9), None], [true, false, true, false]))
     );
     assert!(rt; opens.get(4).is_some());
+}
+
+/// Handles 1 and 2 have two records of /a, and the second is closing; handle 3 has one of /b.
+fn three(opens: &mut Opens, alloc: Global) -> Option<()> {
+    let _one = attach(opens, alloc, 1, 7, 1, Mode::Read)?;
+    let _two = attach(opens, alloc, 2, 8, 1, Mode::Both)?;
+    let _three = attach_to(opens, alloc, b"/b", 3, 9, 1, Mode::Write)?;
+    if !opens.closing(2, true) {
+        return None;
+    }
+    Some(())
+}
+
+/// Whether a refresh finds handles of a file.
+fn refresh(opens: &mut Opens, alloc: Global, file: &[u8], other: u8, seqid: u32) -> Option<bool>
+    requires { seqid ≢ 0 }
+{
+    let Ok(rec) = key(alloc, file) else {
+        return None;
+    };
+    match opens.refresh(&rec, stateid(other, seqid)) {
+        Ok(any) => Some(any),
+        Err(_) => None,
+    }
+}
+
+/// What a refresh of /a and one of /c find, and the stateids of the three handles after it.
+fn refreshed(opens: &mut Opens, alloc: Global) -> Option<([bool; 2], [Option<Stateid>; 3])> {
+    three(opens, alloc)?;
+    let found = refresh(opens, alloc, b"/a", 5, 4)?;
+    let absent = refresh(opens, alloc, b"/c", 6, 1)?;
+    Some((
+        [found, absent],
+        [
+            opens.stateid_of(1),
+            opens.stateid_of(2),
+            opens.stateid_of(3),
+        ],
+    ))
+}
+
+#[test]
+fn a_refresh_moves_each_handle_of_its_key(rt: HostRuntime) {
+    let mut opens = Opens::new(rt.alloc());
+    assert_eq!(rt;
+        refreshed(&mut opens, rt.alloc()),
+        Some((
+            [true, false],
+            [
+                Some(stateid(5, 4)),
+                Some(stateid(5, 4)),
+                Some(stateid(9, 1))
+            ]
+        ))
+    );
+    assert!(rt; opens.is_closing(2));
+    assert_eq!(rt;
+        opens.shrink_of(2),
+        Some(Shrink::Downgrade(Mode::Read, stateid(5, 4)))
+    );
+    assert_eq!(rt; opens.shrink_of(3), Some(Shrink::Close(stateid(9, 1))));
+    assert_eq!(rt;
+        attach(&mut opens, rt.alloc(), 4, 5, 4, Mode::Read),
+        Some(4)
+    );
+    assert_eq!(rt;
+        attach(&mut opens, rt.alloc(), 4, 7, 1, Mode::Read),
+        Some(0)
+    );
+}
+
+/// Whether a reclaim of /a is taken: handle 2 writes from then on, and handle 3, which was on another file, has the record too.
+fn reclaim(opens: &mut Opens, alloc: Global) -> bool {
+    let Ok(rec) = key(alloc, b"/a") else {
+        return false;
+    };
+    let rows = [(2, Mode::Write), (3, Mode::Both)];
+    opens.reclaimed(&rec, stateid(5, 1), &rows).is_ok()
+}
+
+#[test]
+fn a_reclaim_moves_the_handles_that_it_names(rt: HostRuntime) {
+    let mut opens = Opens::new(rt.alloc());
+    assert!(rt; three(&mut opens, rt.alloc()).is_some());
+    assert!(rt; reclaim(&mut opens, rt.alloc()));
+    assert_eq!(rt; opens.shrink_of(1), Some(Shrink::Close(stateid(7, 1))));
+    assert_eq!(rt; opens.shrink_of(2), Some(Shrink::Keep));
+    assert_eq!(rt;
+        opens.shrink_of(3),
+        Some(Shrink::Downgrade(Mode::Write, stateid(5, 1)))
+    );
+    assert!(rt; opens.is_closing(2));
+    assert!(rt; apply(&mut opens, 3, 5, 2));
+    assert_eq!(rt; opens.shrink_of(2), Some(Shrink::Close(stateid(5, 2))));
+}
+
+fn numbered(number: u32, seqid: u32) -> Stateid
+    ensures { result.seqid ≡ seqid }
+{
+    let [a, b, c, d] = number.to_be_bytes();
+    let other = [a, b, c, d, 0, 0, 0, 0, 0, 0, 0, 0];
+    Stateid { seqid, other }
+}
+
+/// The open of a handle is answered, with a record of its own or with the one of all.
+fn open_nth(opens: &mut Opens, alloc: Global, n: u32, apart: bool) -> bool
+    requires { n < 2 ^ 16 }
+{
+    let Ok(rec) = key(alloc, b"/a") else {
+        return false;
+    };
+    let s = if apart {
+        numbered(n, 1)
+    } else {
+        numbered(0, n + 1)
+    };
+    opens.attach(u64::from(n), rec, s, Mode::Read).is_ok()
+}
+
+/// Its close is answered, behind as many changes as handles.
+fn close_nth(opens: &mut Opens, n: u32, count: u32, apart: bool) -> bool
+    requires n { n < 2 ^ 16 }
+    requires count { count < 2 ^ 16 }
+{
+    let other = if apart { n } else { 0 };
+    let s = numbered(other, count + n + 1);
+    matches!(opens.applied(u64::from(n), s), Ok(true))
+}
+
+/// Whether so many handles can be opened and closed.
+fn all_close(opens: &mut Opens, alloc: Global, count: u32, apart: bool) -> bool
+    requires { count < 2 ^ 16 }
+{
+    for n in 0..count {
+        if !open_nth(opens, alloc, n, apart) {
+            return false;
+        }
+    }
+    for n in 0..count {
+        if !close_nth(opens, n, count, apart) {
+            return false;
+        }
+    }
+    opens.is_empty()
+}
+
+#[test]
+fn a_thousand_handles_have_one_record_or_each_its_own(rt: HostRuntime) {
+    let mut opens = Opens::new(rt.alloc());
+    assert!(rt; all_close(&mut opens, rt.alloc(), 1024, false));
+    assert!(rt; all_close(&mut opens, rt.alloc(), 1024, true));
 }
