@@ -237,10 +237,13 @@ marked_stays t g h b n = at_open (open_of t.handles g) refl where
   at_other o e (Some x) i =
       let j = marked_open t.handles g h (marked b o) n ∙ i in
       let m = marked_modes t.handles g h x.id o b e in
-      rw (i, j) (record { there = refl; kept = λ f.
-        keeps_of (union (others (set_value (is_number g) t.handles (marked b o)) x.id h)) x.mode _
-        ∙ (ap (λ (ms : List Mode). covers (union ms) x.mode) m
-        ∙ (sym (keeps_of (union (others t.handles x.id h)) x.mode (stateid_in t x.id)) ∙ f)) })
+      rw (i, j) (record {
+        there = refl;
+        kept = λ f.
+            keeps_of (union (others (set_value (is_number g) t.handles (marked b o)) x.id h)) x.mode _
+            ∙ (ap (λ (ms : List Mode). covers (union ms) x.mode) m
+            ∙ (sym (keeps_of (union (others t.handles x.id h)) x.mode (stateid_in t x.id)) ∙ f));
+      })
 
   at_open : (o : Option Open) → open_of t.handles g ≡ o → Stays (seen_at t (Some h)) (seen_at (with_mark t g b) (Some h))
   at_open None e = rw e (same_stays (seen_at t (Some h)) (seen_at t (Some h)) refl)

@@ -97,7 +97,7 @@ fn command(alloc: Global, ask: Ask) -> Result<Command, NoMemory>
     }
 }
 
-fn asked(plan: &Plan) -> Asked {
+fn asked_by(plan: &Plan) -> Asked {
     match plan {
         Plan::ExchangeId { .. } => Asked::Identity,
         Plan::CreateSession { .. } => Asked::Session,
@@ -128,7 +128,7 @@ fn goes_out(core: &mut Core, xid: u32, on: Option<(u32, u32)>, what: Asked) -> b
     match core.next_out(1) {
         Ok(Some(packet)) => {
             let request = packet.request();
-            request.xid == xid && turn(request) == on && asked(&request.plan) == what
+            request.xid == xid && turn(request) == on && asked_by(&request.plan) == what
         }
         _ => false,
     }
@@ -164,7 +164,7 @@ fn comes(alloc: Global, core: &mut Core, place: u64, xid: u32, told: Told) -> bo
     .is_ok()
 }
 
-fn said(core: &Core, caller: u32, number: u64) -> Said {
+fn said_to(core: &Core, caller: u32, number: u64) -> Said {
     match core.answer_of(Ticket { caller, number }) {
         None => Said::Nothing,
         Some((_, Answer::Done(Value::Opened))) => Said::Opened,
@@ -180,7 +180,7 @@ fn goes(alloc: Global, core: &mut Core, place: u64, step: Step) -> bool {
         Step::Out(xid, on, what) => goes_out(core, xid, on, what),
         Step::Quiet => is_quiet(core),
         Step::Came(xid, told) => comes(alloc, core, place, xid, told),
-        Step::Says(caller, number, what) => said(core, caller, number) == what,
+        Step::Says(caller, number, what) => said_to(core, caller, number) == what,
     }
 }
 
