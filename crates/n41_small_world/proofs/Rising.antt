@@ -1,5 +1,5 @@
 -- The handles that a journal tells rise by number.
-use Rattle.std.proofs.Common.{◌≡◌, ℕ, suc, ◌≤◌, ◌<◌, ◌==◌, Bool, true, false, if◌then◌else◌, List, [], ◌∷◌, Option, Some, None, refl, sym, subst, arith}
+use Rattle.std.proofs.Common.{◌≡◌, ℕ, suc, ◌≤◌, ◌<◌, ◌==◌, Bool, true, false, if◌then◌else◌, List, [], ◌∷◌, Option, Some, None, refl, subst, arith}
 use Rattle.std.specs.Cmp.{ranks}
 use Rattle.std.specs.Ordering.{MatchOrdering, nat_cmp}
 use Rattle.std.specs.declared.cmp.Ordering.{Ordering}
@@ -36,7 +36,7 @@ use Rattle.n41_model.specs.Requests.{slot_number, verdict}
 use Rattle.n41_model.specs.Sessions.{plan_of}
 use Rattle.n41_calls.specs.Answers.{asker}
 use Rattle.n41_calls.specs.Calls.{Call, Ledger, answered_files, began_files, call, command, files, files_told, is_new as is_new_request, ledger, named_in}
-use Rattle.n41_calls.specs.Files.{Files, attached_by, closed_by, files_after, files_by, files_in, files_or, forgotten_at, is_alone, lowered_by, marked_at, open_stateid, opened_by, record_named, refreshed_by, shrunk_stateid, with_opens}
+use Rattle.n41_calls.specs.Files.{Files, closed_by, files_after, files_by, files_in, files_or, forgotten_at, is_alone, lowered_by, marked_at, open_stateid, opened_by, record_named, refreshed_by, shrunk_stateid, with_opens}
 use Rattle.n41_calls.specs.Values.{is_close, reached}
 use Rattle.n41_calls.specs.Walks.{label_of}
 use Rattle.n41_seqid.specs.Fronts.{is_new as is_new_seqid}

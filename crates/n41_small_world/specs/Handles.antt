@@ -3,12 +3,10 @@ use Rattle.std.specs.Prelude.{◌≡◌, ℕ, suc, ◌<◌, ◌≤◌, Bool, tru
 use Rattle.n41_types.specs.declared.spans.Mode.{Mode}
 use Rattle.n41_opens.specs.declared.handles.Open.{Open}
 use Rattle.n41_opens.specs.Opens.{Table, is_marked, open_of}
-use Rattle.n41_calls.specs.Calls.{files}
 use Rattle.n41_calls.specs.Files.{seen_at}
 use Rattle.n41_runs.specs.declared.steps.Step.{Step}
 use Rattle.n41_runs.specs.Good.{IsOnRecord, is_on_record}
 use Rattle.n41_runs.specs.Records.{open_record, reads, same_bytes, writes}
-use Rattle.n41_runs.specs.Steps.{client}
 use Rattle.n41_legal_results.specs.declared.records.OpenRecord.{OpenRecord}
 use Rattle.n41_legal_results.specs.Shorts.{any_reads, any_writes}
 use Rattle.n41_small_world.specs.declared.judgements.Promise.{Promise}

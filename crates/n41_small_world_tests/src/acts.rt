@@ -1,4 +1,5 @@
 //! Runs told in few words: each act is a step.
+use crate::files::{Work, add_answers, command, plan, value};
 use n41_journal::{Cause, Event};
 use n41_results::{
     Bound, ChangeInfo, Channel, Created, Identity, Reply, ReplyBody, Res, Results, Sequenced,
@@ -61,6 +62,8 @@ pub(crate) enum Asks {
     Bind(u32),
     /// A directory of this letter, with this xid, slot and turn.
     Dir(u8, u32, u32, u32),
+    /// Work on a file, with this xid, slot and turn.
+    On(Work, u32, u32, u32),
 }
 
 /// What is answered to it.
@@ -97,6 +100,10 @@ pub(crate) enum Act {
     Refuse(u64, Asks, Status),
     /// The answer to a message is taken from a connection, at a place of it.
     Take(u64, u64, u64, Asks, Gets),
+    /// A caller wants work on a file: its command of this number.
+    Begin(u32, u64, Work),
+    /// It is answered as done.
+    Gave(u32, u64, Work),
     /// A caller's command of this number is answered as done.
     Made(u32, u64),
     /// It is answered as refused.
@@ -158,6 +165,10 @@ pub(crate) fn asked(alloc: Global, asks: Asks) -> Result<Request, NoMemory> {
             let name = name(alloc, letter)?;
             slotted(xid, slot, turn, Plan::MakeDir { dir, name })
         }
+        Asks::On(work, xid, slot, turn) => {
+            let name = name(alloc, b'a')?;
+            slotted(xid, slot, turn, plan(alloc, work, name)?)
+        }
     })
 }
 
@@ -213,6 +224,7 @@ fn add_results(alloc: Global, list: &mut Vec<Res>, asks: Asks, after: u64) -> Re
             list.push(Res::PutRootFh(Status::OK))?;
             list.push(created(alloc, after)?)?;
         }
+        Asks::On(work, ..) => add_answers(alloc, list, work)?,
         _ => {}
     }
     Ok(())
@@ -321,6 +333,34 @@ fn served(alloc: Global, message: u64, asks: Asks) -> Result<Step, NoMemory> {
     })
 }
 
+fn given(caller: u32, number: u64, answer: Answer) -> Event {
+    Event::Answered {
+        caller,
+        number,
+        answer,
+    }
+}
+
+/// An answer to a command, or a dial that fails.
+fn answer(act: Act) -> Event {
+    match act {
+        Act::Gave(caller, number, work) => given(caller, number, Answer::Done(value(work))),
+        Act::Made(caller, number) => given(caller, number, Answer::Done(Value::Made)),
+        Act::Denied(caller, number) => given(caller, number, Answer::Refused(Status::ACCESS)),
+        Act::Unknown(caller, number) => given(caller, number, Answer::Unknown),
+        _ => Event::DialFailed,
+    }
+}
+
+fn began(caller: u32, number: u64, command: Command) -> Event {
+    Event::Began {
+        caller,
+        number,
+        command,
+        moment: 0,
+    }
+}
+
 /// What the client did or met that is no reply.
 fn event(alloc: Global, act: Act) -> Result<Event, NoMemory> {
     Ok(match act {
@@ -330,35 +370,20 @@ fn event(alloc: Global, act: Act) -> Result<Event, NoMemory> {
             cause: Cause::Link,
         },
         Act::Tick(moment) => Event::Ticked { moment },
-        Act::Want(caller, number, letter) => Event::Began {
-            caller,
-            number,
-            command: Command::MakeDir {
-                path: path(alloc, letter)?,
-            },
-            moment: 0,
-        },
+        Act::Want(caller, number, letter) => {
+            let path = path(alloc, letter)?;
+            began(caller, number, Command::MakeDir { path })
+        }
+        Act::Begin(caller, number, work) => {
+            let path = path(alloc, b'a')?;
+            began(caller, number, command(alloc, work, path)?)
+        }
         Act::Put(conn, place, asks) => Event::Put {
             conn,
             place,
             request: asked(alloc, asks)?,
         },
-        Act::Made(caller, number) => Event::Answered {
-            caller,
-            number,
-            answer: Answer::Done(Value::Made),
-        },
-        Act::Denied(caller, number) => Event::Answered {
-            caller,
-            number,
-            answer: Answer::Refused(Status::ACCESS),
-        },
-        Act::Unknown(caller, number) => Event::Answered {
-            caller,
-            number,
-            answer: Answer::Unknown,
-        },
-        _ => Event::DialFailed,
+        _ => answer(act),
     })
 }
 

@@ -1,4 +1,5 @@
 use crate::acts::{Act, Asks, Gets, asked, step};
+use crate::files::Work;
 use n41_runs::{CommandName, Step};
 use n41_small_world::{Judgement, Promise, judge};
 use n41_types::{NoMemory, Request, Status};
@@ -303,5 +304,119 @@ fn judged_of_size(alloc: Global, size: Asks) -> Result<Judgement, NoMemory> {
 fn a_size_refuses_a_request(rt: HostRuntime) -> Result<(), NoMemory> {
     assert_eq!(rt; judged_of_size(rt.alloc(), DIR)?, Judgement::Good);
     assert_eq!(rt; judged_of_size(rt.alloc(), OTHER)?, Judgement::Illegal(16));
+    Ok(())
+}
+
+/// The file is opened by caller 0, in message 4: steps 14 to 18.
+const CREATED: [Act; 5] = [
+    Act::Begin(0, 1, Work::Create(1)),
+    Act::Put(1, 4, Asks::On(Work::Create(1), 5, 0, 3)),
+    Act::Serve(4, Asks::On(Work::Create(1), 5, 0, 3)),
+    Act::Take(4, 1, 4, Asks::On(Work::Create(1), 5, 0, 3), Gets::Done),
+    Act::Gave(0, 1, Work::Create(1)),
+];
+
+/// A file is opened, written and closed; the reply to the write is lost with its connection, and the retry gets the kept one.
+#[test]
+fn a_file_is_written(rt: HostRuntime) -> Result<(), NoMemory> {
+    let data = Asks::On(Work::Write(5), 6, 0, 4);
+    let shut = Asks::On(Work::Close(1), 8, 0, 5);
+    let written = [
+        Act::Begin(0, 2, Work::Write(5)),
+        Act::Put(1, 5, data),
+        Act::Serve(5, data),
+        Act::Break(1),
+        Act::Dial(2),
+        Act::Put(2, 0, BIND),
+        Act::Serve(6, BIND),
+        Act::Take(6, 2, 0, BIND, Gets::Done),
+        Act::Put(2, 1, data),
+        Act::Repeat(7, data, Gets::Done),
+        Act::Take(7, 2, 1, data, Gets::Done),
+        Act::Gave(0, 2, Work::Write(5)),
+    ];
+    let closed = [
+        Act::Begin(0, 3, Work::Close(1)),
+        Act::Put(2, 2, shut),
+        Act::Serve(8, shut),
+    ];
+    let told = [
+        Act::Take(8, 2, 2, shut, Gets::Done),
+        Act::Gave(0, 3, Work::Close(1)),
+    ];
+    let alloc = rt.alloc();
+    let open = judged(alloc, &[&OPENED, &CREATED, &written])?;
+    assert_eq!(rt; open, Judgement::Good);
+    let closing = judged(alloc, &[&OPENED, &CREATED, &written, &closed])?;
+    assert_eq!(rt; closing, Judgement::Good);
+    let whole = judged(alloc, &[&OPENED, &CREATED, &written, &closed, &told])?;
+    assert_eq!(rt; whole, Judgement::Good);
+    Ok(())
+}
+
+/// Two callers open the file: the first close sends nothing, and the record stays for the other handle.
+#[test]
+fn a_record_is_shared(rt: HostRuntime) -> Result<(), NoMemory> {
+    let second = Asks::On(Work::Create(2), 9, 1, 1);
+    let shut = Asks::On(Work::Close(2), 10, 0, 4);
+    let shared = [
+        Act::Begin(1, 1, Work::Create(2)),
+        Act::Put(1, 5, second),
+        Act::Serve(5, second),
+        Act::Take(5, 1, 5, second, Gets::Done),
+        Act::Gave(1, 1, Work::Create(2)),
+        Act::Begin(0, 2, Work::Close(1)),
+        Act::Gave(0, 2, Work::Close(1)),
+    ];
+    let last = [
+        Act::Begin(1, 2, Work::Close(2)),
+        Act::Put(1, 6, shut),
+        Act::Serve(6, shut),
+        Act::Take(6, 1, 6, shut, Gets::Done),
+        Act::Gave(1, 2, Work::Close(2)),
+    ];
+    let unasked = [Act::Put(1, 6, shut), Act::Serve(6, shut)];
+    let alloc = rt.alloc();
+    let one_left = judged(alloc, &[&OPENED, &CREATED, &shared])?;
+    assert_eq!(rt; one_left, Judgement::Good);
+    let none_left = judged(alloc, &[&OPENED, &CREATED, &shared, &last])?;
+    assert_eq!(rt; none_left, Judgement::Good);
+    let other_lost = judged(alloc, &[&OPENED, &CREATED, &shared, &unasked])?;
+    assert_eq!(rt; other_lost, Judgement::Broken(Promise::Kept(2)));
+    Ok(())
+}
+
+/// A client closes the record of a handle that it keeps.
+#[test]
+fn a_record_is_lost(rt: HostRuntime) -> Result<(), NoMemory> {
+    let shut = Asks::On(Work::Close(1), 11, 0, 4);
+    let run = [Act::Put(1, 5, shut), Act::Serve(5, shut)];
+    let judged = judged(rt.alloc(), &[&OPENED, &CREATED, &run])?;
+    assert_eq!(rt; judged, Judgement::Broken(Promise::Kept(1)));
+    Ok(())
+}
+
+/// What a server that keeps its rules does not answer on files, and what it may.
+#[test]
+fn results_that_no_server_gives(rt: HostRuntime) -> Result<(), NoMemory> {
+    let cases = [
+        // an open that tells the seqid again, and one that leaves one out
+        (Work::Create(1), Judgement::Illegal(20)),
+        (Work::Create(3), Judgement::Illegal(20)),
+        // more bytes than were sent
+        (Work::Write(6), Judgement::Illegal(20)),
+        // a close with another seqid than the record's
+        (Work::Close(2), Judgement::Illegal(20)),
+        // a record that is there is told to be lost
+        (Work::Lost(1), Judgement::Illegal(20)),
+        // the same by a seqid that is beyond it
+        (Work::Lost(2), Judgement::Good),
+    ];
+    for (work, wanted) in &cases {
+        let asks = Asks::On(*work, 12, 0, 4);
+        let run = [Act::Put(1, 5, asks), Act::Serve(5, asks)];
+        let judged = judged(rt.alloc(), &[&OPENED, &CREATED, &run])?;
+        assert_eq!(rt; judged, *wanted);
+    }
     Ok(())
 }
