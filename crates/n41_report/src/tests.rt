@@ -212,3 +212,33 @@ fn answers_are_printed(rt: HostRuntime) {
         )
     );
 }
+
+// The answers to one caller that makes a file, writes it, reads it and closes it.
+fn file_journal(alloc: Global) -> Option<Journal> {
+    let mut journal = Journal::new(alloc);
+    let bytes = Bytes::copy_from_slice(alloc, b"hello").ok()?;
+    let read = Answer::Done(Value::Got { bytes, last: true });
+    let before = answered(&mut journal, 0, 1, Answer::Done(Value::Opened))
+        && answered(&mut journal, 0, 2, Answer::Done(Value::Wrote(5)));
+    let got = answered(&mut journal, 0, 3, read);
+    let closed = answered(&mut journal, 0, 4, Answer::Done(Value::Closed));
+    if before && got && closed {
+        Some(journal)
+    } else {
+        None
+    }
+}
+
+fn is_file_printed(alloc: Global, script: &[u8], want: &[u8]) -> bool {
+    match (read_script(alloc, script), file_journal(alloc)) {
+        (Ok(script), Some(journal)) => is_text(alloc, &journal, &script, None, want),
+        _ => false,
+    }
+}
+
+#[test]
+fn answers_on_files_are_printed(rt: HostRuntime) {
+    let script = b"a create f /a\na write f 0 68656c6c6f\na read f 0 10\na close f\n";
+    let want = b"1 a opened\n2 a wrote 5\n3 a data 68656c6c6f end\n4 a closed\n";
+    assert!(rt; is_file_printed(rt.alloc(), script, want));
+}

@@ -193,6 +193,23 @@ fn files_are_refused(rt: HostRuntime) {
 }
 
 #[test]
+fn faults_on_files_have_their_place(rt: HostRuntime) {
+    let cases: [(&[u8], u64, LineKind); 8] = [
+        (b"user 1 1\n\na create f", 3, LineKind::Words),
+        (b"#\na create f /a\nb new - /a", 3, LineKind::Name),
+        (b"a open f / r\n\n\nb open g / wr", 4, LineKind::Command),
+        (b"a read f 0 1\na read f 0 65537\na", 2, LineKind::Number),
+        (b"a write f 0 00\na write f 0 0", 2, LineKind::Hex),
+        (b"owner x\na truncate f 0x1", 2, LineKind::Number),
+        (b"a close f\n a close\n", 2, LineKind::Words),
+        (b"a close f\na close f\na close f ..", 3, LineKind::Words),
+    ];
+    for (text, line, kind) in cases {
+        assert_eq!(rt; fault_of(rt.alloc(), text), Some((line, kind)));
+    }
+}
+
+#[test]
 fn a_caller_opens_a_name_once(rt: HostRuntime) {
     let cases: [(&[u8], Option<(u64, LineKind)>); 9] = [
         (b"a create f /x\na new f /x", Some((2, LineKind::Twice))),
