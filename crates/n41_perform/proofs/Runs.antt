@@ -46,12 +46,13 @@ ends None given s js u e m w d = ends_by_rounds (nat_le round_limit (rounds js))
 -- the run of a client that was made at a moment which its clock gave
 pub client_runs : {T E : Type 0} (r : Result T E) (f h : Option PerformFault) (given : ℕ → Bool) (s : Script) (js ks : List Event) (u v : Setup) (n : ℕ) (ls : List ScriptLine) (moment : ℕ)
     → f ≡ h → js ≡ ks → v ≡ u → n ≡ callers_of s → ls ≡ s.lines → given moment ≡ true → IsClientOf s moment u → IsWhole v js
-    → OnOk r (Driven n ks ls) → OnOk r (h ≡ ending (breach_at u.callers ks) (rounds ks)) → OnErr r (h ≡ Some fault.NoMemory) → RunsTo f given s js
+    → OnOk r (Driven n ks ls) → OnOk r (h ≡ ending (breach_at v.callers ks) (rounds ks)) → OnErr r (h ≡ Some fault.NoMemory) → RunsTo f given s js
 client_runs (Ok x) f h given s js ks u v n ls moment ef ej ev en el i m w d e k =
     let whole : IsWhole u ks = subst (λ (t : Setup). IsWhole t ks) ev (subst (λ (xs : List Event). IsWhole v xs) ej w) in
     let driven : Driven u.callers ks s.lines = subst (λ (c : ℕ). Driven c ks s.lines) (en ∙ sym m.callers) (subst (λ (xs : List ScriptLine). Driven n ks xs) el d) in
+    let same : h ≡ ending (breach_at u.callers ks) (rounds ks) = subst (λ (t : Setup). h ≡ ending (breach_at t.callers ks) (rounds ks)) ev e in
     let to : RunsTo (ending (breach_at u.callers ks) (rounds ks)) given s ks = ends (breach_at u.callers ks) given s ks u refl (moment, i, m) whole driven in
-    subst (λ (xs : List Event). RunsTo f given s xs) (sym ej) (subst (λ (o : Option PerformFault). RunsTo o given s ks) (sym (ef ∙ e)) to)
+    subst (λ (xs : List Event). RunsTo f given s xs) (sym ej) (subst (λ (o : Option PerformFault). RunsTo o given s ks) (sym (ef ∙ same)) to)
 client_runs (Err x) f h given s js ks u v n ls moment ef ej ev en el i m w d e k = subst (λ (o : Option PerformFault). RunsTo o given s js) (sym (ef ∙ k)) tt
 
 -- ---- at each moment of a run
