@@ -93,7 +93,11 @@ static CLOSED: [Case; 6] = [
 ];
 
 /// These pieces, before one of which nothing comes so often.
-fn with_quiet(alloc: Global, pieces: Vec<Bytes>, quiet: (usize, usize)) -> Result<Vec<Bytes>, NoMemory> {
+fn with_quiet(
+    alloc: Global,
+    pieces: Vec<Bytes>,
+    quiet: (usize, usize),
+) -> Result<Vec<Bytes>, NoMemory> {
     let (at, count) = quiet;
     let mut all = Vec::new(alloc);
     for (place, piece) in pieces.into_iter().enumerate() {
@@ -124,9 +128,21 @@ fn commands_work_on_files(rt: HostRuntime) -> Result<(), Fail> {
 
 /// The number of WRITE, and of the others that may be refused.
 static REFUSED: [(&[u8], u32, &[u8]); 3] = [
-    (b"a create f /x\na read f 0 1\n", 25, b"1 a opened\n2 a refused 13\n"),
-    (b"a create f /x\na write f 0 00\n", 38, b"1 a opened\n2 a refused 13\n"),
-    (b"a create f /x\na truncate f 0\n", 34, b"1 a opened\n2 a refused 13\n"),
+    (
+        b"a create f /x\na read f 0 1\n",
+        25,
+        b"1 a opened\n2 a refused 13\n",
+    ),
+    (
+        b"a create f /x\na write f 0 00\n",
+        38,
+        b"1 a opened\n2 a refused 13\n",
+    ),
+    (
+        b"a create f /x\na truncate f 0\n",
+        34,
+        b"1 a opened\n2 a refused 13\n",
+    ),
 ];
 
 #[test]
@@ -161,7 +177,10 @@ fn a_write_tells_no_more_than_it_was_given(rt: HostRuntime) -> Result<(), Fail> 
         let seen = see(&rt, alloc, over(script, &[pieces.as_slice()]))?;
         assert_eq!(rt; seen.status, 7);
         assert_eq!(rt; seen.fault, Some(RunFault::Breach(17)));
-        assert_eq!(rt; seen.sink.bytes(), b"1 a opened\n2 a breach 17\n".as_slice());
+        assert_eq!(rt;
+            seen.sink.bytes(),
+            b"1 a opened\n2 a breach 17\n".as_slice()
+        );
     }
     Ok(())
 }
@@ -183,11 +202,17 @@ fn a_write_goes_again_as_it_was(rt: HostRuntime) -> Result<(), Fail> {
     let links = [first.as_slice(), second.as_slice()];
     let seen = see(&rt, alloc, over(script, &links))?;
     assert_eq!(rt; seen.status, 0);
-    assert_eq!(rt; seen.sink.bytes(), b"1 a opened\n2 a wrote 1\n3 a closed\n".as_slice());
+    assert_eq!(rt;
+        seen.sink.bytes(),
+        b"1 a opened\n2 a wrote 1\n3 a closed\n".as_slice()
+    );
     assert!(rt; are_of(&seen.second, &replies));
     // Where no connection is made any more, the write is unknown, and its file cannot be closed.
     let seen = see(&rt, alloc, over(script, &[first.as_slice()]))?;
     assert_eq!(rt; seen.status, 6);
-    assert_eq!(rt; seen.sink.bytes(), b"1 a opened\n2 a unknown\n3 a unreachable\n".as_slice());
+    assert_eq!(rt;
+        seen.sink.bytes(),
+        b"1 a opened\n2 a unknown\n3 a unreachable\n".as_slice()
+    );
     Ok(())
 }

@@ -152,8 +152,9 @@ alive k (Broke c w ∷ js) e =
     record { now = n; back = worked_alive (broke_phase (phases js).0) (phases js).1 n a.back }
 alive k (Took c p y ∷ js) e =
     let f = none_before (breach_at k js) (breaks (verdict js y) (bare_verdict js y) || misleads k js y) _ e in
+    let b = neither (breaks (verdict js y) (bare_verdict js y)) (misleads k js y) f.1 in
     let a = alive k js f.0 in
-    let n = took_alive js y (phases js).0 (phases js).1 f.1 a.now a.back in
+    let n = took_alive js y (phases js).0 (phases js).1 b.0 a.now a.back in
     record { now = n; back = worked_alive (took_phase js y (phases js).0 (phases js).1) (phases js).1 n a.back }
 alive k (Began d n a m ∷ js) e = let a = alive k js e in record { now = a.now; back = a.back }
 alive k (Put c p r ∷ js) e = let a = alive k js e in record { now = a.now; back = a.back }

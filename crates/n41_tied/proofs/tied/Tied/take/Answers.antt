@@ -6,17 +6,6 @@ use Rattle.n41_view.proofs.Law.{view_steps}
 use Rattle.n41_tied.specs.Told.{Told}
 use Rattle.n41_tied.proofs.tied.Tied.take.Goals as goal
 
-pub invariant_of-self : goal.invariant_of-self
-invariant_of-self c =
-    let old = c.self.invariant in
-    record {
-      some = old.some;
-      few = old.few;
-      owner = old.owner;
-      kept = old.kept;
-      tied = old.tied ∙ sym c.in_err-take.ensures.err;
-    }
-
 pub invariant_of-self-2 : goal.invariant_of-self-2
 invariant_of-self-2 c =
     let old = c.self.invariant in
