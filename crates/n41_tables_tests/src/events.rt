@@ -37,8 +37,7 @@ fn step(alloc: Global, tables: &mut Tables, event: Event) -> Result<(), NoMemory
         return Ok(());
     }
     let copy = EventCopy::of(alloc, event)?;
-    tables.step(copy);
-    Ok(())
+    tables.take(copy)
 }
 
 fn put(alloc: Global, tables: &mut Tables, request: Request) -> Result<(), NoMemory> {

@@ -65,7 +65,7 @@ fn both(alloc: Global) -> Result<Answer, NoMemory> {
 /// The answer that the seat of the first caller gives up.
 fn given(tables: &mut Tables) -> Option<Answer> {
     if tables.facts().events < 100 {
-        tables.answered(0)
+        tables.answered(0, None)
     } else {
         None
     }

@@ -1,7 +1,6 @@
 -- The answer that is handed over, or else the one that the tables give up, is the answer of the journal.
-use Rattle.std.proofs.Common.{◌≡◌, ℕ, ◌<◌, ◌-◌, List, ◌∷◌, Option, Some, IfSome, slice_get, unwrap_or, sym, ◌∙◌, ap, subst}
+use Rattle.std.proofs.Common.{◌≡◌, ℕ, ◌<◌, ◌-◌, ◌∷◌, Option, Some, IfSome, slice_get, unwrap_or, sym, ◌∙◌, ap, subst}
 use Rattle.n41_types.specs.declared.commands.Answer.{Answer}
-use Rattle.n41_journal.specs.declared.events.Event.{Event}
 use Rattle.n41_journal.specs.declared.events.Event.TheVariants.{Answered}
 use Rattle.n41_journal.specs.Journal.{Log}
 use Rattle.n41_model.specs.declared.words.Setup.{Setup}

@@ -1,4 +1,4 @@
-use Rattle.std.proofs.Common.{None, ◌∙◌, refl, ap}
+use Rattle.std.proofs.Common.{◌∙◌, refl, ap}
 use Rattle.n41_journal.specs.declared.events.Event.TheVariants.{Quit}
 use Rattle.n41_view.specs.View.{View}
 use Rattle.n41_view.specs.Step.{step}
