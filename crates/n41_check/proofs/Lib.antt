@@ -1,6 +1,5 @@
 pub mod InPlace
 pub mod Finding
-pub mod Equal
 pub mod Rows
 pub mod Puts
 pub mod Keys

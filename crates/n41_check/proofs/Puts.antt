@@ -12,7 +12,7 @@ use Rattle.n41_check.specs.Rows.{row_of, has, is_request, row_breach}
 use Rattle.n41_check.specs.Rules.{Keeps, IsNext, IsSame, is_repeat, last_put, rank}
 use Rattle.n41_check.specs.declared.rules.Rule.{Rule}
 use Rattle.n41_check.specs.declared.rules.Rule.TheVariants.{Slots, Retries, Turns, Causes, Answers}
-use Rattle.n41_check.proofs.Equal.{request_is}
+use Rattle.n41_equal.proofs.Requests.{request_is}
 use Rattle.n41_check.proofs.Rows.{IsLone, IsRoom, lone_length, put_lone}
 
 -- ---- slots

@@ -4,7 +4,7 @@ ghost use Rattle.n41_journal.specs.declared.events.Event.{Event};
 ghost use Rattle.n41_journal.specs.declared.events.Cause.{Cause};
 ghost use Rattle.n41_journal.specs.declared.events.Event.TheVariants.{Began, Put, Took, Dialed, DialFailed, Broke, Ticked, Answered};
 ghost use Rattle.n41_calls.specs.Answers.{round_limit};
-ghost use Rattle.n41_calls.specs.Calls.{number};
+ghost use Rattle.n41_calls.specs.Calls.{files, number};
 ghost use Rattle.n41_model.specs.Requests.{bare_verdict_on, rounds};
 ghost use Rattle.n41_check.specs.Rows.{row_in, row_of};
 ghost use Rattle.n41_check.specs.Rules.{Keeps};
@@ -96,6 +96,13 @@ impl<'a> Machine<'a> {
         ensures { (n : ℕ) (js : List Event) → Shows n js self.now → result ≡ number js caller }
     {
         callers::number(caller, &self.seats)
+    }
+
+    /// The handles that the callers have.
+    pub fn files(&self) -> &Files
+        ensures { (n : ℕ) (js : List Event) → Shows n js self.now → result.now ≡ files n js }
+    {
+        &self.files
     }
 
     /// Whether so many rounds in a row have ended without a reply that the run ends.

@@ -8,11 +8,15 @@ mod breaks;
 #[cfg(test)]
 mod callers;
 #[cfg(test)]
+mod files;
+#[cfg(test)]
 mod journals;
 #[cfg(test)]
 mod lists;
 #[cfg(test)]
 mod messages;
+#[cfg(test)]
+mod opens;
 #[cfg(test)]
 mod pauses;
 #[cfg(test)]

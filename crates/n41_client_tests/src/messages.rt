@@ -1,11 +1,12 @@
 // The messages of a server, written by hand (RFC 5531, section 9; RFC 8881, section 18).
 
+use crate::opens::{FileTold, put_file};
 use n41_types::{Bytes, NoMemory};
 use n41_xdr::Writer;
 use std::alloc::{AllocError, Global};
 
 /// A word of the name of the one session, of which it has four.
-const S: u32 = 0x0707_0707;
+pub(crate) const S: u32 = 0x0707_0707;
 
 /// The name `srv`, with its fill.
 const SRV: u32 = 0x7372_7600;
@@ -57,6 +58,8 @@ pub(crate) enum Told {
     Listed(u32, u32, From, (u32, u32, bool)),
     /// The entries at a filehandle are refused with this status.
     Unlisted(u32, u32, u32),
+    /// What is told of a file.
+    OnFile(u32, u32, FileTold),
     /// So many results, of which none follows.
     Counted(u32),
     SessionGone,
@@ -71,7 +74,7 @@ fn directory(fileid: u32) -> [u32; 9] {
     [0x0010_0012, 2, 24, 2, 0, 0, 0, fileid, 0o755]
 }
 
-fn put_words(w: &mut Writer, words: &[u32]) -> Result<(), NoMemory> {
+pub(crate) fn put_words(w: &mut Writer, words: &[u32]) -> Result<(), NoMemory> {
     for word in words {
         w.put_u32(*word)?;
     }
@@ -80,7 +83,7 @@ fn put_words(w: &mut Writer, words: &[u32]) -> Result<(), NoMemory> {
 
 /// SEQUENCE and then these results: a status, an empty tag, the count of the results, and of SEQUENCE its session, turn and slot, the highest
 /// slot and the target, which are above those that the session has, and no flags.
-fn put_on(
+pub(crate) fn put_on(
     w: &mut Writer,
     slot: u32,
     turn: u32,
@@ -190,6 +193,7 @@ fn put_told(alloc: Global, w: &mut Writer, told: Told) -> Result<(), NoMemory> {
         Told::Walked(..) | Told::Lost(..) => put_walk(w, told),
         Told::DirectoryMade(..) | Told::Removed(..) | Told::Renamed(..) => put_change(w, told),
         Told::Listed(..) | Told::Unlisted(..) => put_listing(alloc, w, told),
+        Told::OnFile(slot, turn, told) => put_file(w, slot, turn, told),
         Told::Refused(status) => put_words(w, &[status, 0, 1, 53, status]),
         Told::NoRoot(slot, turn, status) => put_on(w, slot, turn, status, 3, &[24, 0, 9, status]),
         Told::Counted(count) => put_words(w, &[0, 0, count]),

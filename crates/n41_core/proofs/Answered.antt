@@ -9,7 +9,7 @@ use Rattle.n41_types.specs.declared.commands.Value.{Value}
 use Rattle.n41_types.specs.declared.commands.Value.TheVariants as value
 use Rattle.n41_journal.specs.declared.events.Event.{Event}
 use Rattle.n41_calls.specs.Answers.{told}
-use Rattle.n41_calls.specs.Calls.{call, command, either, handle_given, pause_given}
+use Rattle.n41_calls.specs.Calls.{call, command, handle_given, pause_given}
 use Rattle.n41_calls.specs.Kept.{Kept, MayAnswer}
 use Rattle.n41_calls.specs.Walks.{Seen}
 use Rattle.n41_view.specs.Causes.{CauseIn, IsPromptIn, given_in}

@@ -13,40 +13,39 @@ use Rattle.n41_types.specs.declared.commands.Value.TheVariants as value
 use Rattle.n41_types.specs.declared.identities.Stateid.{Stateid}
 use Rattle.n41_types.specs.declared.spans.Mode.{Mode}
 use Rattle.n41_types.specs.declared.spans.Mode.TheVariants.{Read, Write, Both}
-use Rattle.n41_opens.specs.declared.answers.Shrink.{Shrink}
 use Rattle.n41_opens.specs.declared.handles.Open.{Open}
 use Rattle.n41_opens.specs.declared.ids.RecordId.{RecordId}
 use Rattle.n41_opens.specs.Ids.{is_id}
 use Rattle.n41_opens.specs.Modes.{joined, joined_with, union, is_less}
-use Rattle.n41_opens.specs.Opens.{Table, forgotten, is_number, mark_at, marked, modes, open_of, others, shrink_by, stateid_in, with_mark, without}
+use Rattle.n41_opens.specs.Opens.{Table, forgotten, is_number, marked, modes, open_of, others, shrink_by, stateid_in, with_mark, without}
 use Rattle.n41_model.specs.declared.words.Way.{Way}
 use Rattle.n41_calls.specs.Walks.{Seen, is_keep, label_of}
 use Rattle.n41_calls.specs.Values.{is_close}
-use Rattle.n41_calls.specs.Files.{Files, forgotten_at, marked_at, seen_at, seen_of}
+use Rattle.n41_calls.specs.Files.{Files, forgotten_at, marked_at, seen_at}
 use Rattle.n41_calls.specs.Calls.{answered_files, handle_given, keeps_seen}
 
 -- ---- modes
 
-reads : Mode → Bool
+abbrev reads : Mode → Bool
 reads Read = true
 reads Write = false
 reads Both = true
 
-writes : Mode → Bool
+abbrev writes : Mode → Bool
 writes Read = false
 writes Write = true
 writes Both = true
 
-some_of : (Mode → Bool) → List Mode → Bool
+abbrev some_of : (Mode → Bool) → List Mode → Bool
 some_of f [] = false
 some_of f (m ∷ ms) = f m || some_of f ms
 
 -- these modes let do all that this one does
-covers : Option Mode → Mode → Bool
+abbrev covers : Option Mode → Mode → Bool
 covers None m = false
 covers (Some u) m = not (is_less u (joined u m))
 
-needs : Mode → Bool → Bool → Bool
+abbrev needs : Mode → Bool → Bool → Bool
 needs Read a b = a
 needs Write a b = b
 needs Both a b = a && b
@@ -143,8 +142,8 @@ open_other (e ∷ es) g h n = open_other_by e es g h n (open_other es g h n) (is
 swapped_by : (e : ℕ × Open) (es : List (ℕ × Open)) (g h : ℕ) → g ≢ h → without (without es g) h ≡ without (without es h) g → (c : Bool) → is_number g e.0 ≡ c → (b : Bool) → is_number h e.0 ≡ b → without (without (e ∷ es) g) h ≡ without (without (e ∷ es) h) g
 swapped_by e es g h n ih true q true i = absurd (n (number_is g e.0 q ∙ sym (number_is h e.0 i)))
 swapped_by e es g h n ih true q false i = rw (q, i, q) refl
-swapped_by e es g h n ih false q true i = rw (q, i, i) refl
-swapped_by e es g h n ih false q false i = rw (q, i, i, q) (ap (λ (xs : List (ℕ × Open)). e ∷ xs) ih)
+swapped_by e es g h n ih false q true i = rw (q, i) refl
+swapped_by e es g h n ih false q false i = rw (q, i, q) (ap (λ (xs : List (ℕ × Open)). e ∷ xs) ih)
 
 swapped : (es : List (ℕ × Open)) (g h : ℕ) → g ≢ h → without (without es g) h ≡ without (without es h) g
 swapped [] g h n = refl
@@ -153,8 +152,8 @@ swapped (e ∷ es) g h n = swapped_by e es g h n (swapped es g h n) (is_number g
 fewer_by : (f : Mode → Bool) (e : ℕ × Open) (es : List (ℕ × Open)) (g : ℕ) (r : RecordId) → Less1 (some_of f (modes (without es g) r)) (some_of f (modes es r)) → (c : Bool) → is_number g e.0 ≡ c → (b : Bool) → is_id r e.1.id ≡ b → Less1 (some_of f (modes (without (e ∷ es) g) r)) (some_of f (modes (e ∷ es) r))
 fewer_by f e es g r ih true q true i = rw (q, i) (or_more (f e.1.mode) (some_of f (modes es r)))
 fewer_by f e es g r ih true q false i = rw (q, i) (λ h. h)
-fewer_by f e es g r ih false q true i = rw (q, i, i) (or_less (f e.1.mode) (some_of f (modes (without es g) r)) (some_of f (modes es r)) ih)
-fewer_by f e es g r ih false q false i = rw (q, i, i) ih
+fewer_by f e es g r ih false q true i = rw (q, i) (or_less (f e.1.mode) (some_of f (modes (without es g) r)) (some_of f (modes es r)) ih)
+fewer_by f e es g r ih false q false i = rw (q, i) ih
 
 fewer : (f : Mode → Bool) (es : List (ℕ × Open)) (g : ℕ) (r : RecordId) → Less1 (some_of f (modes (without es g) r)) (some_of f (modes es r))
 fewer f [] g r e = refl
@@ -164,8 +163,8 @@ keeps_of : (u : Option Mode) (m : Mode) (s : Stateid) → is_keep (shrink_by u m
 keeps_of None m s = refl
 keeps_of (Some u) m s = by (is_less u (joined u m)) refl where
   by : (b : Bool) → is_less u (joined u m) ≡ b → is_keep (shrink_by (Some u) m s) ≡ covers (Some u) m
-  by true e = rw (e, e) refl
-  by false e = rw (e, e) refl
+  by true e = rw e refl
+  by false e = rw e refl
 
 -- a handle that is kept by others once one has left was so before
 others_keep : (es : List (ℕ × Open)) (g h : ℕ) (r : RecordId) (m : Mode) (s t : Stateid) → g ≢ h → is_keep (shrink_by (union (others es r h)) m s) ≡ false → is_keep (shrink_by (union (others (without es g) r h)) m t) ≡ false
@@ -194,9 +193,9 @@ forgotten_stays t g h n = by (open_of t.handles h) refl where
 
 marked_open_by : (e : ℕ × Open) (es : List (ℕ × Open)) (g h : ℕ) (o : Open) → g ≢ h → open_of (set_value (is_number g) es o) h ≡ open_of es h → (c : Bool) → is_number g e.0 ≡ c → (b : Bool) → is_number h e.0 ≡ b → open_of (set_value (is_number g) (e ∷ es) o) h ≡ open_of (e ∷ es) h
 marked_open_by e es g h o n ih true q true i = absurd (n (number_is g e.0 q ∙ sym (number_is h e.0 i)))
-marked_open_by e es g h o n ih true q false i = rw (q, i, i) refl
-marked_open_by e es g h o n ih false q true i = rw (q, i, i) refl
-marked_open_by e es g h o n ih false q false i = rw (q, i, i) ih
+marked_open_by e es g h o n ih true q false i = rw (q, i) refl
+marked_open_by e es g h o n ih false q true i = rw (q, i) refl
+marked_open_by e es g h o n ih false q false i = rw (q, i) ih
 
 marked_open : (es : List (ℕ × Open)) (g h : ℕ) (o : Open) → g ≢ h → open_of (set_value (is_number g) es o) h ≡ open_of es h
 marked_open [] g h o n = refl
@@ -204,17 +203,6 @@ marked_open (e ∷ es) g h o n = marked_open_by e es g h o n (marked_open es g h
 
 abbrev entered : RecordId → Open → List Mode → List Mode
 entered r o ms = if is_id r o.id then o.mode ∷ ms else ms
-
-marked_modes_by : (e : ℕ × Open) (es : List (ℕ × Open)) (g h : ℕ) (r : RecordId) (o : Open) (b : Bool) → (open_of es g ≡ Some o → modes (without (set_value (is_number g) es (marked b o)) h) r ≡ modes (without es h) r) → (c : Bool) → is_number g e.0 ≡ c → (d : Bool) → is_number h e.0 ≡ d → open_of (e ∷ es) g ≡ Some o → modes (without (set_value (is_number g) (e ∷ es) (marked b o)) h) r ≡ modes (without (e ∷ es) h) r
-marked_modes_by e es g h r o b ih true q true i f = rw (q, i, i) refl
-marked_modes_by e es g h r o b ih true q false i f =
-    let j : Some e.1 ≡ Some o = (rw q at f) in
-    let k : e.1 ≡ o = cc in
-    rw (q, i, i) (ap (λ (x : Open). entered r (marked b x) (modes (without es h) r)) (sym k))
-marked_modes_by e es g h r o b ih false q true i f = rw (q, i, i) (marked_behind (rw q at f)) where
-  marked_behind : open_of es g ≡ Some o → modes (set_value (is_number g) es (marked b o)) r ≡ modes es r
-  marked_behind z = modes_marked es g r o b z
-marked_modes_by e es g h r o b ih false q false i f = rw (q, i, i) (ap (λ (ms : List Mode). entered r e.1 ms) (ih (rw q at f)))
 
 modes_marked_by : (e : ℕ × Open) (es : List (ℕ × Open)) (g : ℕ) (r : RecordId) (o : Open) (b : Bool) → (open_of es g ≡ Some o → modes (set_value (is_number g) es (marked b o)) r ≡ modes es r) → (c : Bool) → is_number g e.0 ≡ c → open_of (e ∷ es) g ≡ Some o → modes (set_value (is_number g) (e ∷ es) (marked b o)) r ≡ modes (e ∷ es) r
 modes_marked_by e es g r o b ih true q f =
@@ -227,12 +215,20 @@ modes_marked : (es : List (ℕ × Open)) (g : ℕ) (r : RecordId) (o : Open) (b 
 modes_marked [] g r o b f = refl
 modes_marked (e ∷ es) g r o b f = modes_marked_by e es g r o b (modes_marked es g r o b) (is_number g e.0) refl f
 
+marked_modes_by : (e : ℕ × Open) (es : List (ℕ × Open)) (g h : ℕ) (r : RecordId) (o : Open) (b : Bool) → (open_of es g ≡ Some o → modes (without (set_value (is_number g) es (marked b o)) h) r ≡ modes (without es h) r) → (c : Bool) → is_number g e.0 ≡ c → (d : Bool) → is_number h e.0 ≡ d → open_of (e ∷ es) g ≡ Some o → modes (without (set_value (is_number g) (e ∷ es) (marked b o)) h) r ≡ modes (without (e ∷ es) h) r
+marked_modes_by e es g h r o b ih true q true i f = rw (q, i) refl
+marked_modes_by e es g h r o b ih true q false i f =
+    let j : Some e.1 ≡ Some o = (rw q at f) in
+    let k : e.1 ≡ o = cc in
+    rw (q, i) (ap (λ (x : Open). entered r (marked b x) (modes (without es h) r)) (sym k))
+marked_modes_by e es g h r o b ih false q true i f = rw (q, i) (marked_behind (rw q at f)) where
+  marked_behind : open_of es g ≡ Some o → modes (set_value (is_number g) es (marked b o)) r ≡ modes es r
+  marked_behind z = modes_marked es g r o b z
+marked_modes_by e es g h r o b ih false q false i f = rw (q, i) (ap (λ (ms : List Mode). entered r e.1 ms) (ih (rw q at f)))
+
 marked_modes : (es : List (ℕ × Open)) (g h : ℕ) (r : RecordId) (o : Open) (b : Bool) → open_of es g ≡ Some o → modes (without (set_value (is_number g) es (marked b o)) h) r ≡ modes (without es h) r
 marked_modes [] g h r o b f = refl
 marked_modes (e ∷ es) g h r o b f = marked_modes_by e es g h r o b (marked_modes es g h r o b) (is_number g e.0) refl (is_number h e.0) refl f
-
-seen_there : (t : Table) (h : ℕ) (o : Open) → open_of t.handles h ≡ Some o → seen_at t (Some h) ≡ Some (record { handle = o; shrink = shrink_by (union (others t.handles o.id h)) o.mode (stateid_in t o.id) })
-seen_there t h o e = rw e refl
 
 marked_stays : (t : Table) (g h : ℕ) (b : Bool) → g ≢ h → Stays (seen_at t (Some h)) (seen_at (with_mark t g b) (Some h))
 marked_stays t g h b n = at_open (open_of t.handles g) refl where
@@ -241,7 +237,13 @@ marked_stays t g h b n = at_open (open_of t.handles g) refl where
   at_other o e (Some x) i =
       let j = marked_open t.handles g h (marked b o) n ∙ i in
       let m = marked_modes t.handles g h x.id o b e in
-      rw (i, j) (record { there = refl; kept = λ f. keeps_of _ _ _ ∙ ap (λ (ms : List Mode). covers (union ms) x.mode) m ∙ sym (keeps_of _ _ _) ∙ f })
+      rw (i, j) (record {
+        there = refl;
+        kept = λ f.
+            keeps_of (union (others (set_value (is_number g) t.handles (marked b o)) x.id h)) x.mode _
+            ∙ (ap (λ (ms : List Mode). covers (union ms) x.mode) m
+            ∙ (sym (keeps_of (union (others t.handles x.id h)) x.mode (stateid_in t x.id)) ∙ f));
+      })
 
   at_open : (o : Option Open) → open_of t.handles g ≡ o → Stays (seen_at t (Some h)) (seen_at (with_mark t g b) (Some h))
   at_open None e = rw e (same_stays (seen_at t (Some h)) (seen_at t (Some h)) refl)

@@ -1,9 +1,8 @@
 -- Callers are answered one after another.
-use Rattle.std.proofs.Common.{◌≡◌, ◌≢◌, ◌⊎◌, inl, inr, ℕ, ◌+◌, ◌-◌, ◌<◌, ◌==◌, Bool, true, false, List, [], ◌∷◌, ◌++◌, Option, Some, None, get_or, refl, sym, subst, ◌∙◌, ap, arith, below_more}
+use Rattle.std.proofs.Common.{◌≡◌, ◌≢◌, inl, inr, ℕ, ◌+◌, ◌-◌, ◌<◌, ◌==◌, Bool, true, false, List, [], ◌∷◌, ◌++◌, Some, None, get_or, refl, sym, subst, ◌∙◌, arith, below_more}
 use Rattle.std.proofs.lemmas.Bool.Decides.{nat_tests}
 use Rattle.std.proofs.lemmas.List.{get_or-set_other}
 use Rattle.n41_types.specs.declared.commands.Answer.{Answer}
-use Rattle.n41_types.specs.declared.commands.Command.{Command}
 use Rattle.n41_journal.specs.declared.events.Event.{Event}
 use Rattle.n41_journal.specs.declared.events.Event.TheVariants.{Answered}
 use Rattle.n41_model.specs.declared.words.Setup.{Setup}
@@ -15,7 +14,7 @@ use Rattle.n41_answers.specs.Answers.{lists_after}
 use Rattle.n41_core.specs.Books.{Book, IsNoAnswer, IsAmple, HasSpare, Moves, Settles, Heeds, answers_with}
 use Rattle.n41_core.specs.Settled.{HasNone, IsUnearned, IsPrompted, IsFresh, IsDone}
 use Rattle.n41_core.specs.State.{AddsAnswers}
-use Rattle.n41_core.proofs.Settling.{no_answers, one_answer, more_answers, answered_self, answered_other, none_answered, none_here}
+use Rattle.n41_core.proofs.Settling.{no_answers, one_answer, more_answers, answered_self, answered_other, none_answered}
 
 pub lists_stay : (ls : List (List ℕ)) (p : ℕ) (e : Event) → IsNoAnswer e → lists_after ls p e ≡ ls
 lists_stay ls p (Answered c n a) h = absurd h

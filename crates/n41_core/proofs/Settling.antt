@@ -10,13 +10,13 @@ use Rattle.n41_results.specs.declared.replies.Reply.{Reply}
 use Rattle.n41_journal.specs.declared.events.Cause.{Cause}
 use Rattle.n41_journal.specs.declared.events.Event.{Event}
 use Rattle.n41_journal.specs.declared.events.Event.TheVariants.{Began, Put, Took, Dialed, DialFailed, Broke, Ticked, Answered, Quit}
-use Rattle.n41_model.specs.Requests.{slot_number}
+use Rattle.n41_model.specs.Requests.{moment, slot_number}
 use Rattle.n41_model.specs.Sessions.{phase}
-use Rattle.n41_calls.specs.Calls.{Call, Ledger, ledger, call, command, either, files, given, put_call, fresh_call, took_in, answered_call, is_caller, is_new, in_running, chosen}
-use Rattle.n41_calls.specs.Answers.{asker, breach_at, told}
+use Rattle.n41_calls.specs.Calls.{Call, Ledger, ledger, call, command, began_on, pause_given, handle_given, seen, either, files, given, put_call, fresh_call, took_in, answered_call, is_caller, is_new, in_running, chosen}
+use Rattle.n41_calls.specs.Answers.{asker, breach_at}
 use Rattle.n41_holds.proofs.Handles.{Handled, holds}
 use Rattle.n41_told.proofs.Told.{caller_is}
-use Rattle.n41_core.specs.Settled.{HasNone, IsUnearned, IsPrompted, IsFresh, Waits, IsSettled, GoesOn, IsDone, IsDecided}
+use Rattle.n41_core.specs.Settled.{HasNone, IsUnearned, IsPrompted, IsFresh, Waits, IsSettled, IsDone, IsDecided}
 use Rattle.n41_core.specs.State.{OnlyAnswers, AddsAnswers, ticked}
 use Rattle.n41_core.proofs.Parting.{Apart, given_after}
 
@@ -87,8 +87,10 @@ answered_other n js c k a d t (inr g) = at_test (c == d) refl where
 
   still : (c == d) ≡ false → given n (Answered c k a ∷ js) d ≡ None
   still e =
-      let x = no_either _ _ g.ungiven in
-      let y = no_either _ _ x.1 in
+      let p = pause_given (began_on js d) (moment js) (command js d) in
+      let q = handle_given (call n js d).busy (command js d) (seen n js d) in
+      let x = no_either (call n js d).earned (either p q) g.ungiven in
+      let y = no_either p q x.1 in
       let z = given_after (call n js d).busy (command js d) (command js c) a (call n js c).way (call n js d).way.handle (files n js) (apart n js c d t g.waits.unbroken (differ e)) y.1 in
       rw e (rw (x.0, y.0) z)
 

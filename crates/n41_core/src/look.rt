@@ -11,5 +11,11 @@ pub(crate) fn look<'a>(facts: &'a Facts, tables: &'a Tables) -> Lookup<'a>
     requires seats { length tables.now.seats < 2 ^ 32 }
     ensures { result ≡ tables.now }
 {
-    Lookup::new(facts, tables.bare(), tables.slots(), tables.seats(), tables.files())
+    Lookup::new(
+        facts,
+        tables.bare(),
+        tables.slots(),
+        tables.seats(),
+        tables.files(),
+    )
 }

@@ -5,7 +5,7 @@ ghost use Rattle.n41_calls.specs.Kept.{May, MayBreakBy};
 ghost use Rattle.n41_model.specs.Requests.{standing};
 ghost use Rattle.n41_results.specs.declared.messages.Heard.TheVariants as heard;
 ghost use Rattle.n41_core.specs.State.{HasTaken, AddsAnswers, appends};
-ghost use Rattle.n41_core.specs.Settled.{IsDecided};
+ghost use Rattle.n41_core.specs.Settled.{IsDecided, IsSettled};
 ghost use Rattle.n41_core.specs.Causes.{TookCause, CallCause, PlaceFault, IsNextIn, ShapeCause, IsReplyTo};
 
 use crate::answering::settle;
@@ -45,7 +45,8 @@ fn take(
     place: u64,
     reply: Reply,
 ) -> Result<(), NoMemory>
-    requires { May books.old.setup books.old.events (EventValue.Took conn place reply) }
+    requires may { May books.old.setup books.old.events (EventValue.Took conn place reply) }
+    requires settled { IsSettled books.old.setup.callers books.old.events }
     ensures setup { books.new.setup ≡ books.old.setup }
     ensures added { OnOk result ((xs : List EventValue) × AddsAnswers (EventValue.Took conn place reply ∷ books.old.events) books.new.events xs) }
     ensures decided { OnOk result (IsDecided books.old.setup.callers books.new.events) }

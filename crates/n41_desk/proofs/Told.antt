@@ -98,7 +98,7 @@ all_told : (u : Setup) (js : List Event) → length u.owner ≤ 1024 → Kept u 
 all_told u [] l k t = tt
 all_told u (e ∷ js) l k t = (this e k.1 t, all_told u js l k.0 (λ c. before_told e js c (t c))) where
   this : (e : Event) → May u js e → ((c : ℕ) → AreTold (taken_on (e ∷ js) c)) → IsTellable e
-  this (Put c p r) m t = (due_short u js m.0 r l k.0 m.1.is_due).1
+  this (Put c p r) m t = (due_short u js m.0 r l k.0 m.1.is_due).spellable
   this (Took c p y) m t = told_last (taken_on js c) y (subst AreTold (taken_self js c p y) (t c))
   this (CbTook d p x) m t = absurd m
   this (CbPut d p x) m t = absurd m

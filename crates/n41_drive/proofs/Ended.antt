@@ -144,17 +144,18 @@ alive : (n : ℕ) (js : List Event) → breach_at n js ≡ None → Alive js
 alive k [] e = record { now = refl; back = refl }
 alive k (Dialed c ∷ js) e =
     let a = alive k js e in
-    let n = fresh_alive k (phases js).0 (session js) (client js) a.now in
-    record { now = n; back = worked_alive k (dialed_phase (phases js).0 (session js) (client js)) (phases js).1 n a.back }
+    let n = fresh_alive (phases js).0 (session js) (client js) a.now in
+    record { now = n; back = worked_alive (dialed_phase (phases js).0 (session js) (client js)) (phases js).1 n a.back }
 alive k (Broke c w ∷ js) e =
     let a = alive k js e in
-    let n = broke_alive k (phases js).0 a.now in
-    record { now = n; back = worked_alive k (broke_phase (phases js).0) (phases js).1 n a.back }
+    let n = broke_alive (phases js).0 a.now in
+    record { now = n; back = worked_alive (broke_phase (phases js).0) (phases js).1 n a.back }
 alive k (Took c p y ∷ js) e =
     let f = none_before (breach_at k js) (breaks (verdict js y) (bare_verdict js y) || misleads k js y) _ e in
+    let b = neither (breaks (verdict js y) (bare_verdict js y)) (misleads k js y) f.1 in
     let a = alive k js f.0 in
-    let n = took_alive k js y (phases js).0 (phases js).1 f.1 a.now a.back in
-    record { now = n; back = worked_alive k (took_phase js y (phases js).0 (phases js).1) (phases js).1 n a.back }
+    let n = took_alive js y (phases js).0 (phases js).1 b.0 a.now a.back in
+    record { now = n; back = worked_alive (took_phase js y (phases js).0 (phases js).1) (phases js).1 n a.back }
 alive k (Began d n a m ∷ js) e = let a = alive k js e in record { now = a.now; back = a.back }
 alive k (Put c p r ∷ js) e = let a = alive k js e in record { now = a.now; back = a.back }
 alive k (CbTook c p x ∷ js) e = let a = alive k js e in record { now = a.now; back = a.back }

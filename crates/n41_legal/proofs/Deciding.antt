@@ -2,6 +2,7 @@
 use Rattle.std.proofs.Common.{◌≡◌, ◌⊎◌, inl, inr, ℕ, ◌==◌, Bool, true, false, ◌&&◌, ◌||◌, not, List, Option, Some, None, refl, sym, ◌∙◌, ap, subst, true≢false}
 use Rattle.std.specs.Prelude.{is_none, is_some}
 use Rattle.std.specs.Bool.{Decides}
+use Rattle.std.specs.List.{list_any}
 use Rattle.std.proofs.lemmas.Bool.Decides.{Decides-eqb}
 use Rattle.n41_types.specs.declared.plans.Request.{Request}
 use Rattle.n41_types.specs.declared.plans.SlotUse.{SlotUse}
@@ -10,11 +11,11 @@ use Rattle.n41_results.specs.declared.results.Res.{Res}
 use Rattle.n41_results.specs.declared.sessions.Sequenced.{Sequenced}
 use Rattle.n41_results.specs.Results.{ok}
 use Rattle.n41_results.specs.Shapes.{shape_of}
-use Rattle.n41_model.specs.Replies.{has_its_answer, is_ok, is_uncached, repeats}
+use Rattle.n41_model.specs.Replies.{has_its_answer, is_half_open, is_ok, is_uncached, repeats}
 use Rattle.n41_runs.specs.declared.steps.Step.{Step}
 use Rattle.n41_runs.specs.Steps.{end_status, ran_reply}
 use Rattle.n41_runs.specs.Server.{alive, is_id, kept, last}
-use Rattle.n41_runs.specs.Rules.{IsRun, MayRepeat, Sizes, is_uncached_body}
+use Rattle.n41_runs.specs.Rules.{IsRun, MayRepeat, Sizes, is_ok_error, is_uncached_body}
 
 -- ---- tests
 
@@ -84,20 +85,26 @@ none_no o r e = never (λ f. (let g : None ≡ Some r = e ∙ f in absurd (cc)))
 
 -- ---- requests with a slot
 
-pub run_is : (r : Request) (q : Sequenced) (xs : List Res) (a b c d : Bool) → a ≡ repeats r.slot q → b ≡ is_none (shape_of r (ran_reply r q xs)) → c ≡ is_uncached (end_status ok xs) → d ≡ (not (is_ok (end_status ok xs)) || has_its_answer r.plan xs) → Decides (((a && b) && not c) && d) (IsRun r q xs)
-run_is r q xs a b c d e f g i = (
-  λ h. (let p = both ((a && b) && not c) d h in
+pub run_is : (r : Request) (q : Sequenced) (xs : List Res) (a b c d e : Bool) → a ≡ repeats r.slot q → b ≡ is_none (shape_of r (ran_reply r q xs)) → c ≡ is_uncached (end_status ok xs) → d ≡ (not (is_ok (end_status ok xs)) || has_its_answer r.plan xs) → e ≡ (not (list_any is_ok_error xs) && not (is_half_open xs)) → Decides (e && (((a && b) && not c) && d)) (IsRun r q xs)
+run_is r q xs a b c d e f g i j k = (
+  λ h. (let v = both e (((a && b) && not c) && d) h in
+      let n = both (not (list_any is_ok_error xs)) (not (is_half_open xs)) (sym k ∙ v.0) in
+      let p = both ((a && b) && not c) d v.1 in
       let s = both (a && b) (not c) p.0 in
       let t = both a b s.0 in
       record {
-        echoes = sym e ∙ t.0;
-        fits = (none_is (shape_of r (ran_reply r q xs))).0 (sym f ∙ t.1);
-        cached = sym g ∙ is_not c s.1;
-        told = λ k. told_of (is_ok (end_status ok xs)) (has_its_answer r.plan xs) k (sym i ∙ p.1);
+        sound = is_not (list_any is_ok_error xs) n.0;
+        whole = is_not (is_half_open xs) n.1;
+        echoes = sym f ∙ t.0;
+        fits = (none_is (shape_of r (ran_reply r q xs))).0 (sym g ∙ t.1);
+        cached = sym i ∙ is_not c s.1;
+        told = λ l. told_of (is_ok (end_status ok xs)) (has_its_answer r.plan xs) l (sym j ∙ p.1);
       }),
-  λ m. and ((a && b) && not c) d
-      (and (a && b) (not c) (and a b (e ∙ m.echoes) (f ∙ (none_is (shape_of r (ran_reply r q xs))).1 m.fits)) (to_not c (g ∙ m.cached)))
-      (i ∙ told_to (is_ok (end_status ok xs)) (has_its_answer r.plan xs) m.told),
+  λ m. and e (((a && b) && not c) && d)
+      (k ∙ and (not (list_any is_ok_error xs)) (not (is_half_open xs)) (to_not (list_any is_ok_error xs) m.sound) (to_not (is_half_open xs) m.whole))
+      (and ((a && b) && not c) d
+      (and (a && b) (not c) (and a b (f ∙ m.echoes) (g ∙ (none_is (shape_of r (ran_reply r q xs))).1 m.fits)) (to_not c (i ∙ m.cached)))
+      (j ∙ told_to (is_ok (end_status ok xs)) (has_its_answer r.plan xs) m.told)),
 )
 
 -- the three parts of a reply that was not kept

@@ -2,19 +2,10 @@ ghost use Rattle.std.specs.Prelude.{◌≡◌, ◌∷◌, [], Ok, IfOk};
 ghost use Rattle.n41_results.specs.declared.results.Res.TheVariants as res;
 ghost use Rattle.n41_runs.specs.Steps.{reply_to, end_status, ran_reply, refused_result, refusal_by, refusal, named_reply, made_reply, bound_reply, ended_reply};
 
+use n41_legal_results::end_status;
 use n41_results::{Bound, Identity, Reply, ReplyBody, Res, Results, Sequenced, SessionMade};
 use n41_types::{NoMemory, Plan, Request, SlotUse, Status};
 use std::alloc::Global;
-
-/// The status of the last of these results, or this one where there are none.
-pub(crate) fn end_status(status: Status, results: &[Res]) -> Status
-    ensures { result ≡ end_status status results.now }
-{
-    match results {
-        [] => status,
-        [first, rest @ ..] => end_status(first.status(), rest),
-    }
-}
 
 /// A reply to a request with these results.
 fn reply_to(

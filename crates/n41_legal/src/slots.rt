@@ -3,17 +3,18 @@ ghost use Rattle.std.specs.Bool.{Decides};
 ghost use Rattle.n41_results.specs.declared.replies.ReplyBody.TheVariants as body;
 ghost use Rattle.n41_results.specs.Results.{ok};
 ghost use Rattle.n41_results.specs.Shapes.{shape_of};
-ghost use Rattle.n41_model.specs.Replies.{has_its_answer, is_not_bound, is_ok, is_uncached, repeats, tells_type_and_size};
+ghost use Rattle.n41_model.specs.Replies.{has_its_answer, is_not_bound, is_ok, is_uncached, repeats};
 ghost use Rattle.n41_runs.specs.Steps.{client, carrier, end_status, ran_reply};
 ghost use Rattle.n41_runs.specs.Server.{alive, is_bound, kept, last, slots_given};
 ghost use Rattle.n41_runs.specs.Rules.{IsRun, MayRepeat, MayRun, is_bad_slot, is_gone, is_misordered, is_out_of_turn, is_uncached_body, slot_refuses};
 ghost use Rattle.n41_legal.specs.Legality.{sizes_of};
 
 use crate::net::carrier;
-use crate::replies::{end_status, ran_reply};
+use crate::replies::ran_reply;
 use crate::server::{alive, is_bound, kept, last, slots_given};
 use crate::sizes::{refuses, size_of};
 use n41_fits::fits;
+use n41_legal_results::{are_sound, end_status, has_its_answer, keeps_records};
 use n41_results::{Reply, ReplyBody, Res, Sequenced};
 use n41_runs::Step;
 use n41_types::{NoMemory, Plan, Request, SlotUse, Status};
@@ -87,26 +88,6 @@ fn repeats(slot: Option<SlotUse>, sequenced: Sequenced) -> bool
     }
 }
 
-/// Whether GETATTR tells a type and a size.
-fn tells_type_and_size(results: &[Res]) -> bool
-    ensures { result ≡ tells_type_and_size results.now }
-{
-    match results {
-        [_, Res::GetAttr(Ok(attrs))] => attrs.kind.is_some() && attrs.size.is_some(),
-        _ => false,
-    }
-}
-
-/// Whether results that were all OK answer the plan.
-fn has_its_answer(plan: &Plan, results: &[Res]) -> bool
-    ensures { result ≡ has_its_answer plan.now results.now }
-{
-    match plan {
-        Plan::Stat { .. } => tells_type_and_size(results),
-        _ => true,
-    }
-}
-
 /// Whether a reply is one to this request.
 pub(crate) fn is_fit(request: &Request, reply: &Reply) -> bool
     ensures { result ≡ is_none (shape_of request.now reply.now) }
@@ -129,10 +110,10 @@ fn is_told(plan: &Plan, end: Status, results: &[Res]) -> bool
 }
 
 /// Whether results are ones of a new turn, by what is known of them.
-fn is_answer(echoes: bool, fits: bool, uncached: bool, told: bool) -> bool
-    ensures { result ≡ (((echoes && fits) && not uncached) && told) }
+fn is_answer(sound: bool, echoes: bool, fits: bool, uncached: bool, told: bool) -> bool
+    ensures { result ≡ (sound && (((echoes && fits) && not uncached) && told)) }
 {
-    echoes && fits && !uncached && told
+    sound && echoes && fits && !uncached && told
 }
 
 /// Whether the results are ones of a new turn.
@@ -150,7 +131,8 @@ fn is_run(
     let fits = is_fit(request, &reply);
     let uncached = is_uncached(end);
     let told = is_told(&request.plan, end, results);
-    Ok(is_answer(echoes, fits, uncached, told))
+    let sound = are_sound(results);
+    Ok(is_answer(sound, echoes, fits, uncached, told))
 }
 
 /// Whether a turn is new: one above the last.
@@ -183,7 +165,8 @@ pub(crate) fn may_run(
     let answer = is_run(alloc, request, sequenced, results)?;
     let taken_in = is_taken_in(sizes, run, request, place);
     let next = is_next(place.turn, last(run, place.sid, place.slot));
-    Ok(taken_in && next && answer)
+    let records = keeps_records(run, &request.plan, results);
+    Ok(taken_in && next && answer && records)
 }
 
 /// Whether these are the results of RETRY_UNCACHED_REP, at SEQUENCE itself or at the next operation.

@@ -1,5 +1,5 @@
 -- The tests of the rules on open records decide them.
-use Rattle.std.proofs.Common.{◌≡◌, ℕ, suc, ◌+◌, ◌<◌, ◌==◌, Bool, true, false, ◌&&◌, ◌||◌, not, List, Option, Some, None, refl, sym, ◌∙◌, ap, subst, true≢false}
+use Rattle.std.proofs.Common.{◌≡◌, ℕ, suc, ◌+◌, ◌==◌, Bool, true, false, ◌&&◌, ◌||◌, not, List, Option, Some, None, refl, sym, ◌∙◌, ap, true≢false, arith}
 use Rattle.std.specs.Prelude.{nat_lt}
 use Rattle.std.specs.List.{filter, list_any}
 use Rattle.std.specs.Bool.{beq, Decides}
@@ -35,6 +35,12 @@ and false b e f = e
 two : {P Q : Type 0} (a b : Bool) → Decides a P → Decides b Q → Decides (a && b) (P × Q)
 two a b d e = (λ h. (let p = both a b h in (d.0 p.0, e.0 p.1)), λ p. and a b (d.1 p.0) (e.1 p.1))
 
+three : {P Q R : Type 0} (a b c : Bool) → Decides a P → Decides b Q → Decides c R → Decides (a && b && c) (P × Q × R)
+three a b c d e f = (
+  λ h. (let p = both (a && b) c h in let q = both a b p.0 in (d.0 q.0, e.0 q.1, f.0 p.1)),
+  λ p. and (a && b) c (and a b (d.1 p.0) (e.1 p.1)) (f.1 p.2),
+)
+
 yes : {P : Type 0} → P → Decides true P
 yes p = (λ e. p, λ q. refl)
 
@@ -62,8 +68,7 @@ next_is : (x : Full) (s : Stateid) → Decides (tests.is_next (short x) s) (IsNe
 next_is x s =
     let o = bytes_decides s.other x.other in
     let q = Decides-eqb s.seqid (x.seqid + 1) in
-    let l = Decides-ltb s.seqid change_limit in
-    (
+    let l = Decides-ltb s.seqid change_limit in (
       λ h. (let p = both (same_bytes s.other x.other && (s.seqid == x.seqid + 1)) (nat_lt s.seqid change_limit) h in
           let t = both (same_bytes s.other x.other) (s.seqid == x.seqid + 1) p.0 in
           record { other = o.0 t.0; seqid = q.0 t.1 ∙ suc_is x.seqid; bound = l.0 p.1 }),
@@ -94,8 +99,8 @@ lowers_is : (x : Option Full) (i : Stateid) (m : Mode) (s : Option Stateid) → 
 lowers_is x i m None = yes tt
 lowers_is None i m (Some s) = no (λ e. e)
 lowers_is (Some x) i m (Some s) =
-    two (rules.is_current i x) (tests.is_union m (kinds_of x.modes) && tests.is_next (short x) s) (itself (rules.is_current i x))
-    (two (tests.is_union m (kinds_of x.modes)) (tests.is_next (short x) s) (union_is m x.modes) (next_is x s))
+    three (rules.is_current i x) (tests.is_union m (kinds_of x.modes)) (tests.is_next (short x) s)
+    (itself (rules.is_current i x)) (union_is m x.modes) (next_is x s)
 
 closes_is : (x : Option Full) (i : Stateid) (s : Option Stateid) → Decides (tests.closes (short_of x) i s) (Closes x i s)
 closes_is x i None = yes tt

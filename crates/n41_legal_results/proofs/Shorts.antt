@@ -6,7 +6,11 @@ use Rattle.n41_types.specs.declared.plans.Plan.{Plan}
 use Rattle.n41_types.specs.declared.plans.Plan.TheVariants as plan
 use Rattle.n41_types.specs.declared.spans.Mode.{Mode}
 use Rattle.n41_types.specs.declared.spans.Mode.TheVariants.{Read, Write, Both}
+use Rattle.n41_types.specs.declared.plans.Request.{Request}
 use Rattle.n41_results.specs.declared.results.Res.{Res}
+use Rattle.n41_results.specs.declared.sessions.Sequenced.{Sequenced}
+use Rattle.n41_runs.specs.declared.steps.Step.{Step}
+use Rattle.n41_runs.specs.declared.steps.Step.TheVariants.{Runs}
 use Rattle.n41_calls.specs.Values.{reached}
 use Rattle.n41_calls.specs.Files.{open_stateid, shrunk_stateid}
 use Rattle.n41_runs.specs.Records.{OpenRecord as Full, allows, is_other, is_told, modes_of, reads, same_bytes, writes}
@@ -91,3 +95,6 @@ pub with_other_short : (o : List ℕ) (x : Option Full) → short_of (full.with_
 with_other_short o x = changed_none (is_other x o) (has_other (short_of x) o) (other_short x o) where
   changed_none : (b c : Bool) → b ≡ c → short_of (if b then x else None) ≡ (if c then short_of x else None)
   changed_none b c e = if_ap short_of b x None ∙ ap (λ (d : Bool). if d then short_of x else None) e
+
+pub ran_short : (w : List Step) (k : ℕ) (r : Request) (q : Sequenced) (xs : List Res) (o f : List ℕ) (x y : Option OpenRecord) → y ≡ shorts.record_by r.plan xs o f x → x ≡ short_of (full.open_record w o f) → y ≡ short_of (full.open_record (Runs k r q xs ∷ w) o f)
+ran_short w k r q xs o f x y e g = e ∙ (ap (λ (z : Option OpenRecord). shorts.record_by r.plan xs o f z) g ∙ sym (by_short r.plan xs o f (full.open_record w o f)))

@@ -40,7 +40,7 @@ is_union m k = beq (reads m) (any_reads (within m k)) && beq (writes m) (any_wri
 abbrev pub lowers : Option OpenRecord → Stateid → Mode → Option Stateid → Bool
 lowers x i m None = true
 lowers None i m (Some s) = false
-lowers (Some x) i m (Some s) = is_current i x && (is_union m x.kinds && is_next x s)
+lowers (Some x) i m (Some s) = is_current i x && is_union m x.kinds && is_next x s
 
 abbrev pub closes : Option OpenRecord → Stateid → Option Stateid → Bool
 closes x i None = true

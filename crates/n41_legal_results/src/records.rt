@@ -1,6 +1,7 @@
-ghost use Rattle.std.specs.Prelude.{◌≡◌, option_copied};
+ghost use Rattle.std.specs.Prelude.{◌≡◌, ◌∷◌, List, option_copied};
 ghost use Rattle.n41_calls.specs.Files.{open_stateid};
 ghost use Rattle.n41_runs.specs.Records.{gives, is_told, named_record, open_record, opener, opener_in, was_given};
+ghost use Rattle.n41_runs.specs.declared.steps.Step.{Step};
 ghost use Rattle.n41_legal_results.specs.Shorts.{any_reads, any_writes, closed, has_other, kinds_in, lowered, no_kinds, opened, record_by, short_of, with_mode, with_other, within};
 
 use n41_files::{open_stateid, reached, shrunk_stateid};
@@ -113,11 +114,14 @@ fn opened(stateid: Option<Stateid>, mode: Mode, held: Option<OpenRecord>) -> Opt
 {
     match stateid {
         None => held,
-        Some(told) => Some(OpenRecord {
-            other: told.other,
-            seqid: told.seqid,
-            kinds: kinds_in(held).with(mode),
-        }),
+        Some(told) => {
+            let other = told.other;
+            Some(OpenRecord {
+                other,
+                seqid: told.seqid,
+                kinds: kinds_in(held).with(mode),
+            })
+        }
     }
 }
 
@@ -129,11 +133,14 @@ fn lowered(stateid: Option<Stateid>, mode: Mode, held: Option<OpenRecord>) -> Op
         None => held,
         Some(told) => match held {
             None => None,
-            Some(held) => Some(OpenRecord {
-                other: held.other,
-                seqid: told.seqid,
-                kinds: held.kinds.within(mode),
-            }),
+            Some(held) => {
+                let other = held.other;
+                Some(OpenRecord {
+                    other,
+                    seqid: told.seqid,
+                    kinds: held.kinds.within(mode),
+                })
+            }
         },
     }
 }
@@ -210,23 +217,29 @@ fn record_by(
     }
 }
 
+/// The record of an owner and a file once a step is done, where it is known before.
+fn record_after(step: &Step, owner: &Owner, fh: &Fh, held: Option<OpenRecord>) -> Option<OpenRecord>
+    ensures { (w : List Step) → held ≡ short_of (open_record w owner.now fh.now) → result ≡ short_of (open_record (step.now ∷ w) owner.now fh.now) }
+{
+    match step {
+        Step::Runs {
+            request,
+            results,
+            ..
+        } => record_by(&request.plan, results.as_slice(), owner, fh, held),
+        _ => held,
+    }
+}
+
 /// The open record of an owner and a file behind a run, whose steps are the newest first.
 pub fn open_record(run: &[Step], owner: &Owner, fh: &Fh) -> Option<OpenRecord>
     ensures { result ≡ short_of (open_record run.now owner.now fh.now) }
 {
-    match run {
-        [] => None,
-        [
-            Step::Runs {
-                request, results, ..
-            },
-            before @ ..,
-        ] => {
-            let held = open_record(before, owner, fh);
-            record_by(&request.plan, results.as_slice(), owner, fh, held)
-        }
-        [_, before @ ..] => open_record(before, owner, fh),
-    }
+    let [step, before @ ..] = run else {
+        return None;
+    };
+    let held = open_record(before, owner, fh);
+    record_after(step, owner, fh, held)
 }
 
 /// The owner by which a plan opens.
@@ -270,7 +283,9 @@ fn opener(run: &[Step], other: [u8; 12]) -> Option<&Owner>
         [] => None,
         [
             Step::Runs {
-                request, results, ..
+                request,
+                results,
+                ..
             },
             before @ ..,
         ] => {

@@ -150,7 +150,8 @@ fn keeps(run: &[Step], plan: &Plan, results: &[Res]) -> bool
         Plan::Downgrade { fh, stateid, mode } => {
             let held = named_record(run, fh, *stateid);
             let end = end_status(Status::OK, results);
-            lowers(held, *stateid, *mode, shrunk_stateid(results)) && tells_loss(held, *stateid, end)
+            lowers(held, *stateid, *mode, shrunk_stateid(results))
+                && tells_loss(held, *stateid, end)
         }
         Plan::CloseState { fh, stateid } => {
             let held = named_record(run, fh, *stateid);

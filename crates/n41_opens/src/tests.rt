@@ -1,4 +1,4 @@
-ghost use Rattle.std.specs.Prelude.{◌≡◌, ◌≢◌, ◌<◌, ◌≤◌, length};
+ghost use Rattle.std.specs.Prelude.{◌≡◌, ◌≢◌, ◌<◌, ◌≤◌, ◌^◌, length};
 
 use crate::{AttachFault, Opens, RecordKey, Shrink};
 use n41_types::{Bytes, Fh, Mode, NoMemory, Owner, Stateid};
@@ -324,4 +324,132 @@ fn reclaimed_handles_share_a_record(rt: HostRuntime) {
         attach(&mut opens, rt.alloc(), 5, 8, 1, Mode::Read),
         Some(0)
     );
+}
+
+/// The stateid of the file with this number.
+fn numbered(file: u32, seqid: u32) -> Stateid
+    ensures { result.seqid ≡ seqid }
+{
+    let [a, b, c, d] = file.to_be_bytes();
+    let other = [a, b, c, d, 0, 0, 0, 0, 0, 0, 0, 0];
+    Stateid { seqid, other }
+}
+
+fn numbered_key(alloc: Global, file: u32) -> Result<RecordKey, NoMemory> {
+    let owner = Owner::new(Bytes::copy_from_slice(alloc, b"o")?);
+    let fh = Fh::new(Bytes::copy_from_slice(alloc, &file.to_be_bytes())?);
+    Ok(RecordKey { owner, fh })
+}
+
+fn nth_mode(n: u32) -> Mode {
+    match n % 3 {
+        0 => Mode::Read,
+        1 => Mode::Write,
+        _ => Mode::Both,
+    }
+}
+
+/// The seqid that the open of one of many handles is answered with: the first of its own record, or the next of the one of all.
+fn nth_seqid(n: u32, apart: bool) -> u32
+    requires { n < 2 ^ 16 }
+    ensures { result ≢ 0 }
+{
+    if apart { 1 } else { n + 1 }
+}
+
+/// Whether the open of one of many handles was taken, on a file of its own or on the one of all.
+fn open_nth(opens: &mut Opens, alloc: Global, n: u32, apart: bool) -> bool
+    requires { n < 2 ^ 16 }
+{
+    let file = if apart { n } else { 0 };
+    let seqid = nth_seqid(n, apart);
+    let Ok(rec) = numbered_key(alloc, file) else {
+        return false;
+    };
+    let s = numbered(file, seqid);
+    opens.attach(u64::from(n), rec, s, nth_mode(n)).is_ok()
+}
+
+/// What closes sent: how many of them nothing, a downgrade, and a close.
+#[derive(Clone, Copy, Debug, PartialEq, Eq)]
+struct Sent {
+    nothing: u64,
+    downgrades: u64,
+    closes: u64,
+}
+
+fn counted(sent: Sent, shrink: Shrink) -> Sent {
+    let mut sent = sent;
+    match shrink {
+        Shrink::Keep => sent.nothing = sent.nothing.saturating_add(1),
+        Shrink::Downgrade(_, _) => sent.downgrades = sent.downgrades.saturating_add(1),
+        Shrink::Close(_) => sent.closes = sent.closes.saturating_add(1),
+    }
+    sent
+}
+
+/// Whether what this sends is answered so that the handle leaves.
+fn leaves(opens: &mut Opens, handle: u64, shrink: Shrink) -> bool {
+    match shrink {
+        Shrink::Keep => opens.forget(handle),
+        Shrink::Downgrade(_, s) => apply_next(opens, handle, s),
+        Shrink::Close(s) => matches!(opens.applied(handle, s), Ok(true)),
+    }
+}
+
+fn apply_next(opens: &mut Opens, handle: u64, s: Stateid) -> bool {
+    let seqid = s.seqid.wrapping_add(1);
+    let other = s.other;
+    matches!(opens.applied(handle, Stateid { seqid, other }), Ok(true))
+}
+
+/// Closes a handle, and counts what that sent. None where it could not be.
+fn close_nth(opens: &mut Opens, handle: u64, sent: Sent) -> Option<Sent> {
+    let shrink = opens.shrink_of(handle)?;
+    if !leaves(opens, handle, shrink) {
+        return None;
+    }
+    Some(counted(sent, shrink))
+}
+
+/// What the closes of so many handles sent, once all were open.
+fn all_closed(alloc: Global, count: u32, apart: bool) -> Option<Sent>
+    requires { count < 2 ^ 16 }
+{
+    let mut opens = Opens::new(alloc);
+    for n in 0..count {
+        if !open_nth(&mut opens, alloc, n, apart) {
+            return None;
+        }
+    }
+    let mut sent = Sent {
+        nothing: 0,
+        downgrades: 0,
+        closes: 0,
+    };
+    for n in 0..count {
+        sent = close_nth(&mut opens, u64::from(n), sent)?;
+    }
+    if opens.is_empty() { Some(sent) } else { None }
+}
+
+/// The handles of 64 callers with 16 each, on one file.
+#[test]
+fn a_thousand_handles_have_one_record(rt: HostRuntime) {
+    let sent = Sent {
+        nothing: 1022,
+        downgrades: 1,
+        closes: 1,
+    };
+    assert_eq!(rt; all_closed(rt.alloc(), 64 * 16, false), Some(sent));
+}
+
+#[test]
+fn a_thousand_handles_have_a_record_each(rt: HostRuntime) {
+    let sent = Sent {
+        nothing: 0,
+        downgrades: 0,
+        closes: 1024,
+    };
+    assert_eq!(rt; all_closed(rt.alloc(), 1024, true), Some(sent));
 }

@@ -17,8 +17,8 @@ use crate::running::{Ran, run_script};
 use n41_calls::one_request_is_out;
 use n41_core::Packet;
 use n41_journal::Journal;
+use n41_kept::each_legal_run_is_good;
 use n41_link::{Clock, Dialer, Sink, Source};
-use n41_once::a_change_takes_effect_once;
 use n41_script::Script;
 use n41_wire::Wire;
 use std::alloc::Global;
@@ -162,7 +162,7 @@ where
     ensures tells { C.tells result.clock ≡ C.tells clock }
 {
     one_request_is_out();
-    a_change_takes_effect_once();
+    each_legal_run_is_good();
     match read(alloc, source) {
         Ok(script) => perform_script(rt, alloc, addr, &script, shows, sink, dialer, clock),
         Err(fault) => untouched(alloc, fault, dialer, clock),

@@ -15,10 +15,10 @@ use Rattle.n41_types.specs.Plans.{class_of}
 use Rattle.n41_view.specs.Causes.{is_changing as is_changing_class}
 use Rattle.n41_journal.specs.declared.events.Event.{Event}
 use Rattle.n41_journal.specs.declared.events.Event.TheVariants.{Began, Put, Took, CbTook, CbPut, Dialed, DialFailed, Broke, Ticked, Answered, Quit}
-use Rattle.n41_model.specs.Answers.{round_limit}
+use Rattle.n41_calls.specs.Answers.{round_limit}
 use Rattle.n41_model.specs.Replies.{is_final}
 use Rattle.n41_model.specs.Requests.{doubt, first, is_on, is_use_of, made, out, outs, rounds, without}
-use Rattle.n41_model.specs.Text.{answer_to}
+use Rattle.n41_calls.specs.Text.{answer_to}
 use Rattle.n41_check.specs.Rows.{Row, is_changing_out, row_of}
 use Rattle.n41_runs.specs.declared.commands.CommandName.{CommandName}
 use Rattle.n41_runs.specs.declared.steps.Step.{Step}

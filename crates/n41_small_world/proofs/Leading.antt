@@ -3,13 +3,13 @@ use Rattle.std.proofs.Common.{◌≡◌, ◌≢◌, ℕ, ◌≤◌, ◌<◌, Boo
 use Rattle.n41_results.specs.declared.replies.Reply.{Reply}
 use Rattle.n41_journal.specs.declared.events.Event.{Event}
 use Rattle.n41_journal.specs.declared.events.Event.TheVariants.{Began, Put, Took, CbTook, CbPut, Dialed, DialFailed, Broke, Ticked, Answered, Quit}
-use Rattle.n41_model.specs.OneOut.{Orderly}
+use Rattle.n41_calls.specs.OneOut.{Orderly}
 use Rattle.n41_model.specs.Requests.{out, outs}
 use Rattle.n41_check.specs.Rules.{callers}
-use Rattle.n41_check.specs.Shows.{IsTried, Moves, Shows}
+use Rattle.n41_check.specs.Shows.{IsCounted, Moves, Shows}
 use Rattle.n41_check.specs.declared.machine.Machine.{Machine}
 use Rattle.n41_check.proofs.Rows.{IsLone, lone_length}
-use Rattle.n41_check.proofs.Walked.{is_tried}
+use Rattle.n41_check.proofs.Walked.{is_counted}
 use Rattle.n41_runs.specs.declared.steps.Step.{Step}
 use Rattle.n41_runs.specs.declared.steps.Step.TheVariants.{Does, Takes, Runs, Repeats, Refuses, Names, Makes, Binds, Ends}
 use Rattle.n41_runs.specs.Steps.{client}
@@ -115,8 +115,8 @@ led_shows n w o m e l = (subst (λ (x : Option Machine). IsLed n w x) e l).0
 led_least : (w : List Step) (o : Option Machine) (m : Machine) → o ≡ Some m → Leads w o → Shows (callers (client w)) (client w) m
 led_least w o m e l = led_shows (callers (client w)) w o m e (l (callers (client w)) (omega arith))
 
-pub led_tried : (w : List Step) (o : Option Machine) (m : Machine) → o ≡ Some m → Leads w o → IsTried m
-led_tried w o m e l = is_tried (callers (client w)) (client w) m (led_least w o m e l)
+pub led_counted : (w : List Step) (o : Option Machine) (m : Machine) → o ≡ Some m → Leads w o → IsCounted m
+led_counted w o m e l = is_counted (callers (client w)) (client w) m (led_least w o m e l)
 
 pub led_room : (w : List Step) (o : Option Machine) (m : Machine) → o ≡ Some m → Leads w o → m.count ≤ length w
 led_room w o m e l = let a = (led_least w o m e l).count in let b = events_few w in omega (arith, a, b)

@@ -4,3 +4,5 @@ pub mod Names
 pub mod Counting
 pub mod Answered
 pub mod Judging
+pub mod Rising
+pub mod Keeping

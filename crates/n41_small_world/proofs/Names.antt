@@ -4,7 +4,7 @@ use Rattle.std.proofs.lemmas.Bool.Decides.{Decides-eqb}
 use Rattle.n41_types.specs.declared.plans.Request.{Request}
 use Rattle.n41_journal.specs.declared.events.Event.{Event}
 use Rattle.n41_journal.specs.declared.events.Event.TheVariants.{Began, Put, Took, CbTook, CbPut, Dialed, DialFailed, Broke, Ticked, Answered, Quit}
-use Rattle.n41_model.specs.Calls.{chosen, in_running, is_new, ledger, number, owner}
+use Rattle.n41_calls.specs.Calls.{chosen, in_running, is_new, ledger, number, owner}
 use Rattle.n41_model.specs.Requests.{has_xid, is_on, knows, outs, slot_number}
 use Rattle.n41_model.specs.Sessions.{phase}
 use Rattle.n41_check.specs.Shows.{Owns}
@@ -30,7 +30,7 @@ owner_put : (n : ℕ) (js : List Event) (c p : ℕ) (r : Request) (s : ℕ) (o :
 owner_put n js c p r s o e f w =
     let g : slot_number r.slot ≡ Some s = slot_is r.slot s e in
     let h : is_new js r (slot_number r.slot) ≡ true = ap (λ (x : Option ℕ). is_new js r x) g ∙ ap not f in
-    let k : owner n (Put c p r ∷ js) s ≡ in_running (phase js) (chosen js (ledger n js).calls r.plan n) = owner_new n js c p r s h ∙ rw e refl in
+    let k : owner n (Put c p r ∷ js) s ≡ in_running (phase js) (chosen js (ledger n js) r n) = owner_new n js c p r s h ∙ rw e refl in
     k ∙ sym (w.new h)
 
 pub named_none : (n : ℕ) (js : List Event) (r : Request) (s : ℕ) → is_on r s ≡ true → Owns n js r None → OwnerName n js r s None

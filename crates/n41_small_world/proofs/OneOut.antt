@@ -7,7 +7,7 @@ use Rattle.n41_types.specs.declared.plans.Request.{Request}
 use Rattle.n41_types.specs.declared.plans.SlotUse.{SlotUse}
 use Rattle.n41_journal.specs.declared.events.Event.{Event}
 use Rattle.n41_journal.specs.declared.events.Event.TheVariants.{Began, Put, Took, CbTook, CbPut, Dialed, DialFailed, Broke, Ticked, Answered, Quit}
-use Rattle.n41_model.specs.OneOut.{IsOrderly, IsOrderlyBare, IsOrderlyOn, OneOut, Orderly}
+use Rattle.n41_calls.specs.OneOut.{IsOrderly, IsOrderlyBare, IsOrderlyOn, OneOut, Orderly}
 use Rattle.n41_model.specs.Requests.{bare_waits, bares, has_xid, is_use_of, is_waiting, joined, knows, out, outs, sent, used, without}
 use Rattle.n41_model.specs.declared.words.Sent.{Sent}
 use Rattle.n41_model.specs.declared.words.Sent.TheVariants.{Never, Waits, Delayed, Unbound}

@@ -1,6 +1,6 @@
 -- What is known of the journal of the client in a run.
 use Rattle.std.specs.Prelude.{ℕ, Bool, true, false, List, Option, Some, None}
-use Rattle.n41_model.specs.OneOut.{Orderly}
+use Rattle.n41_calls.specs.OneOut.{Orderly}
 use Rattle.n41_check.specs.Shows.{Shows}
 use Rattle.n41_check.specs.declared.machine.Machine.{Machine}
 use Rattle.n41_runs.specs.declared.steps.Step.{Step}

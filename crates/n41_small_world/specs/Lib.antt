@@ -1,3 +1,4 @@
 pub mod Judged
 pub mod Led
 pub mod Promised
+pub mod Handles

@@ -8,10 +8,10 @@ use Rattle.n41_types.specs.declared.plans.Request.{Request}
 use Rattle.n41_types.specs.Plans.{class_of}
 use Rattle.n41_journal.specs.declared.events.Event.{Event}
 use Rattle.n41_journal.specs.declared.events.Event.TheVariants.{Answered, Put}
-use Rattle.n41_model.specs.Calls.{owner}
-use Rattle.n41_model.specs.OneOut.{Orderly}
+use Rattle.n41_calls.specs.Calls.{owner}
+use Rattle.n41_calls.specs.OneOut.{Orderly}
 use Rattle.n41_model.specs.Requests.{doubt, is_on, knows, out, outs}
-use Rattle.n41_model.specs.Text.{answer_to}
+use Rattle.n41_calls.specs.Text.{answer_to}
 use Rattle.n41_check.specs.Rules.{callers}
 use Rattle.n41_runs.specs.declared.commands.CommandName.{CommandName}
 use Rattle.n41_runs.specs.declared.steps.Step.{Step}
@@ -73,7 +73,7 @@ IsKept n v w f (Some x) = (a : CommandName) × (x ≡ f a) × (Holds n w x → �
 -- the same of all answers, and of the three kinds in their order
 abbrev pub IsAnswered : ℕ → List Step → Option Promise → Type 0
 IsAnswered n w None = (a : CommandName) → Holds n w (promise.Done a) × (Holds n w (promise.Undone a) × Holds n w (promise.Unknown a))
-IsAnswered n w (Some x) = (2 < rank x) × (Holds n w x → ⊥) × ((a : CommandName) → (3 < rank x → Holds n w (promise.Done a)) × (4 < rank x → Holds n w (promise.Undone a)))
+IsAnswered n w (Some x) = (2 < rank x) × (rank x < 6) × (Holds n w x → ⊥) × ((a : CommandName) → (3 < rank x → Holds n w (promise.Done a)) × (4 < rank x → Holds n w (promise.Undone a)))
 
 -- a request was put on the slot
 abbrev pub was_put : List Event → ℕ → Bool

@@ -15,6 +15,8 @@ pub enum Promise {
     Undone(CommandName),
     /// The command, which is answered Unknown, has its cause for that.
     Unknown(CommandName),
+    /// The server has the open record of the handle with this number, if that is open and is not being closed.
+    Kept(u64),
 }
 
 /// What is said of a run.

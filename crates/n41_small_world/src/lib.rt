@@ -3,6 +3,7 @@
 #![tactic(auto)]
 
 mod effects;
+mod handles;
 mod judgements;
 mod orderly;
 mod promises;

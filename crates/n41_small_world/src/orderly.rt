@@ -1,11 +1,11 @@
 ghost use Rattle.std.specs.Prelude.{◌≡◌, ◌+◌, ◌<◌, ◌≤◌, ◌==◌, ◌^◌, ◌∷◌, ◌&&◌, not, ℕ, true, List, IfOk, option_copied, option_to_list};
 ghost use Rattle.std.specs.Bool.{Decides};
 ghost use Rattle.n41_journal.specs.declared.events.Event.{Event};
-ghost use Rattle.n41_model.specs.OneOut.{IsOrderly, IsOrderlyBare, IsOrderlyOn, Orderly};
+ghost use Rattle.n41_calls.specs.OneOut.{IsOrderly, IsOrderlyBare, IsOrderlyOn, Orderly};
 ghost use Rattle.n41_model.specs.Requests.{bare_waits, bares, out, outs, without};
 ghost use Rattle.n41_check.specs.Rows.{row_in, row_of};
 ghost use Rattle.n41_check.specs.Rules.{callers};
-ghost use Rattle.n41_check.specs.Shows.{IsTried, Shows};
+ghost use Rattle.n41_check.specs.Shows.{IsCounted, Shows};
 ghost use Rattle.n41_runs.specs.Steps.{client};
 ghost use Rattle.n41_small_world.specs.Led.{IsLed, IsLedBy};
 
@@ -150,7 +150,7 @@ fn advance<'a>(
     machine: &mut Machine<'a>,
 ) -> Result<bool, NoMemory>
     requires room { machine.old.count + 1 < 2 ^ 64 }
-    requires tried { IsTried machine.old }
+    requires counted { IsCounted machine.old }
     ensures { IfOk result (λ b. (n : ℕ) → IsLedBy n run.now true machine.old → callers (client (step.now ∷ run.now)) ≤ n → IsLedBy n (step.now ∷ run.now) b machine.new) }
 {
     match step {

@@ -1,7 +1,7 @@
 ghost use Rattle.std.specs.Prelude.{◌≡◌, ◌∷◌, ◌&&◌, ◌||◌, ℕ, List, IfOk, option_copied};
 ghost use Rattle.n41_runs.specs.declared.steps.Step.{Step};
 ghost use Rattle.std.specs.Bool.{Decides};
-ghost use Rattle.n41_model.specs.Text.{answer_to};
+ghost use Rattle.n41_calls.specs.Text.{answer_to};
 ghost use Rattle.n41_check.specs.Rows.{is_changing_out, row_in};
 ghost use Rattle.n41_check.specs.Shows.{Shows};
 ghost use Rattle.n41_runs.specs.Steps.{client};

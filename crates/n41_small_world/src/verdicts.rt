@@ -4,10 +4,11 @@ ghost use Rattle.n41_runs.specs.Steps.{client};
 ghost use Rattle.n41_legal.specs.Legality.{sizes_of};
 ghost use Rattle.n41_small_world.specs.Judged.{IsJudged, IsPromised};
 ghost use Rattle.n41_small_world.specs.Promised.{IsAnswered, OrderlyBy};
-ghost use Rattle.n41_model.specs.OneOut.{Orderly};
+ghost use Rattle.n41_calls.specs.OneOut.{Orderly};
 ghost use Rattle.std.specs.Bool.{Decides};
 
 use crate::effects::{first_twice, is_owned};
+use crate::handles::broken_state;
 use crate::judgements::{Judgement, Promise};
 use crate::orderly::lead;
 use crate::promises::{Kind, first_broken};
@@ -51,7 +52,11 @@ fn broken_effect(alloc: Global, run: &[Step]) -> Result<Option<Promise>, NoMemor
     if let Some(name) = twice {
         return Ok(Some(Promise::Single(name)));
     }
-    broken_answer(alloc, run)
+    let answer = broken_answer(alloc, run)?;
+    if let Some(promise) = answer {
+        return Ok(Some(promise));
+    }
+    broken_state(alloc, run)
 }
 
 /// Which promise of a run is broken first.

@@ -1,5 +1,6 @@
 -- A step for one caller or one slot leaves the others, so that it is a change at one place.
-use Rattle.std.proofs.Common.{◌≡◌, ◌≢◌, ℕ, ◌+◌, ◌<◌, ◌≤◌, ◌==◌, true, false, length, List, map, set, get_or, Option, Some, None, IfSome, slice_get, refl, sym, ◌∙◌, ap, arith, zero-add, eq-eqb}
+use Rattle.std.proofs.Common.{◌≡◌, ◌≢◌, ℕ, ◌+◌, ◌<◌, ◌≤◌, ◌==◌, true, false, length, List, map, set, get_or, Option, Some, None, Result, Ok, Err, IfSome, OnOk, slice_get, refl, sym, ◌∙◌, ap, arith, zero-add, eq-eqb}
+use Rattle.std.specs.Option.{option_or}
 use Rattle.std.proofs.lemmas.Bool.{eqb-true, ne_eqb}
 use Rattle.std.proofs.lemmas.Option.{slice_get-get_or, slice_get_past}
 use Rattle.n41_types.specs.declared.commands.Answer.{Answer}
@@ -8,14 +9,14 @@ use Rattle.n41_types.specs.declared.plans.Request.{Request}
 use Rattle.n41_types.specs.declared.plans.SlotUse.{SlotUse}
 use Rattle.n41_results.specs.declared.replies.Reply.{Reply}
 use Rattle.n41_model.specs.Requests.{is_on, is_use_of, is_bare, is_bare_use}
-use Rattle.n41_calls.specs.Calls.{is_caller, fresh_call, put_call, took_call, answered_call}
+use Rattle.n41_calls.specs.Calls.{Hour, is_caller, fresh_call, put_call, took_call, answered_call, answered_files}
 use Rattle.n41_view.specs.declared.tables.Seat.{Seat}
 use Rattle.n41_view.specs.declared.tables.Slot.{Slot}
 use Rattle.n41_view.specs.Step.{put_slot, began_seat, put_seat, took_seat, answered_seat, with_call, call_of, Said, seat_hour, seat_answered, seat_told, told_by}
 use Rattle.n41_calls.specs.Files.{Files}
 use Rattle.n41_view.specs.View.{View}
 use Rattle.n41_chosen.proofs.Choices.{then_of, else_of}
-use Rattle.n41_tables.specs.Earned.{earned_at}
+use Rattle.n41_tables.specs.Earned.{earned_at, handed_at}
 use Rattle.n41_tables.specs.Sound.{IsPlaced, slot_place, seat_place}
 use Rattle.n41_tables.proofs.Places.{place_at, step_nothing, step_off, step_past, step_there}
 
@@ -138,3 +139,21 @@ told_off w a y d e l = ap (λ (o : Option ℕ). told_by w a y o) e ∙ ap (λ (s
 
 pub told_on : (w : View) (a : Said) (y : Reply) (d : ℕ) (x : Seat) → a.owner ≡ Some d → d < length w.seats → told_by w a y a.owner ≡ seat_told a y w.files (Some (get_or w.seats d x))
 told_on w a y d x e l = ap (λ (o : Option ℕ). told_by w a y o) e ∙ ap (λ (s : Option Seat). seat_told a y w.files s) (slice_get-get_or w.seats d x l)
+
+-- ---- a caller's answer: the one that is handed over, or the one that its last reply gave
+
+pub handed_past : (o : Option Answer) (d : ℕ) (ss : List Seat) → length ss ≤ d → o ≡ handed_at o (slice_get ss d)
+handed_past None d ss l = earned_past d ss l
+handed_past (Some a) d ss l = refl
+
+pub handed_there : (o b r : Option Answer) (d : ℕ) (ss : List Seat) (x : Seat) → d < length ss → b ≡ (get_or ss d x).earned → r ≡ option_or o b → r ≡ handed_at o (slice_get ss d)
+handed_there None b r d ss x l e h = h ∙ earned_there d ss x b l e
+handed_there (Some a) b r d ss x l e h = h
+
+pub forgot_there : (d : ℕ) (a : Answer) (ss : List Seat) (x t : Seat) (f g : Files) → d < length ss → t ≡ record (get_or ss d x) { earned = None } → g ≡ answered_files t.command a t.way f → g ≡ seat_answered a f (slice_get ss d)
+forgot_there d a ss x t f g l e h = h ∙ (ap (λ (s : Seat). seat_answered a f (Some s)) e ∙ ap (λ (s : Option Seat). seat_answered a f s) (sym (slice_get-get_or ss d x l)))
+
+-- a reply that is taken, or for want of memory is not
+pub took_by : {X Y : Type 0} (r : Result X Y) (m : View) (a : Said) (y : Reply) (d : ℕ) (ss : List Seat) (x t : Seat) (n : Hour) → a.owner ≡ Some d → IsPlaced seat_place 0 ss → d < length ss → n ≡ seat_hour m (get_or ss d x) → OnOk r (t ≡ with_call (get_or ss d x) (took_call n (get_or ss d x).command a.plan a.slot y (call_of (get_or ss d x)))) → OnOk r (set ss d t ≡ map (took_seat m a y) ss)
+took_by (Ok b) m a y d ss x t n q p l h e = took_there m a y d ss x t q p l (e ∙ ap (λ (i : Hour). with_call (get_or ss d x) (took_call i (get_or ss d x).command a.plan a.slot y (call_of (get_or ss d x)))) h)
+took_by (Err b) m a y d ss x t n q p l h e = tt

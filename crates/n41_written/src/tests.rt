@@ -151,3 +151,23 @@ fn commands_come_back(rt: HostRuntime) {
     assert!(rt; written_anew(rt.alloc(), line, text));
     assert!(rt; written_anew(rt.alloc(), text, text));
 }
+
+#[test]
+fn commands_on_files_come_back(rt: HostRuntime) {
+    let lines: [&[u8]; 11] = [
+        b"create f /a/b",
+        b"new f /a",
+        b"open f / r",
+        b"open f /a w",
+        b"open f /a/b rw",
+        b"read f 18446744073709551615 65536",
+        b"read f 0 1",
+        b"write f 18446744073709551615 00ff",
+        b"truncate f 0",
+        b"truncate f 18446744073709551615",
+        b"close abcdefghijklmno9",
+    ];
+    for line in lines {
+        assert!(rt; written_anew(rt.alloc(), line, line));
+    }
+}

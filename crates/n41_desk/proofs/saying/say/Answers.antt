@@ -1,12 +1,13 @@
 use Rattle.std.proofs.Common.{◌≡◌, ◌≤◌, ℕ, length, arith}
-use Rattle.n41_requests.specs.Requests.{spelled}
+use Rattle.n41_requests.specs.Requests.{spelled, most_of}
 use Rattle.n41_desk.proofs.Linked.{says, sends, put_something}
 use Rattle.n41_desk.proofs.saying.say.Goals as goal
 
 pub tell-sent-requires-clause-short : goal.tell-sent-requires-clause-short
 tell-sent-requires-clause-short g c =
-    let l : length (spelled c.in-Some.packet.request) ≤ 4000 = rw c.in-Some.is at c.in_ok-packet.ensures.short in
-    omega (arith, l)
+    let l : length (spelled c.in-Some.packet.request) ≤ most_of c.in-Some.packet.request.plan = rw c.in-Some.is at c.in_ok-packet.ensures.short in
+    let m : most_of c.in-Some.packet.request.plan ≤ 66560 = rw c.in-Some.is at c.in_ok-packet.ensures.within in
+    omega (arith, l, m)
 
 pub returns-in_default-clause-fares : goal.returns-in_default-clause-fares
 returns-in_default-clause-fares g c =

@@ -22,7 +22,7 @@ pub returns-in-Ok-clause-one_out : goal.returns-in-Ok-clause-one_out
 returns-in-Ok-clause-one_out g c = always_one_out _ c.one_request_is_out.ensures c.perform_script.ensures.whole
 
 pub returns-in-Ok-clause-good : goal.returns-in-Ok-clause-good
-returns-in-Ok-clause-good g c = always_good _ c.a_change_takes_effect_once.ensures c.perform_script.ensures.whole
+returns-in-Ok-clause-good g c = always_good _ c.each_legal_run_is_good.ensures c.perform_script.ensures.whole
 
 pub returns-in-Ok-clause-reads : goal.returns-in-Ok-clause-reads
 returns-in-Ok-clause-reads g c =
@@ -46,7 +46,7 @@ pub returns-in-Err-clause-one_out : goal.returns-in-Err-clause-one_out
 returns-in-Err-clause-one_out g c = always_one_out _ c.one_request_is_out.ensures (whole_none _ c.untouched.ensures.journal)
 
 pub returns-in-Err-clause-good : goal.returns-in-Err-clause-good
-returns-in-Err-clause-good g c = always_good _ c.a_change_takes_effect_once.ensures (whole_none _ c.untouched.ensures.journal)
+returns-in-Err-clause-good g c = always_good _ c.each_legal_run_is_good.ensures (whole_none _ c.untouched.ensures.journal)
 
 pub returns-in-Err-clause-writes : goal.returns-in-Err-clause-writes
 returns-in-Err-clause-writes g c =

@@ -1,7 +1,7 @@
 use Rattle.std.proofs.Common.{List, ◌-◌, length, take, drop, true, false, ap, arith}
 use Rattle.n41_runs.specs.declared.steps.Step.{Step}
 use Rattle.n41_legal.proofs.Parts.{split}
-use Rattle.n41_small_world.proofs.Leading.{led_empty, led_none, led_room, led_run, led_tried}
+use Rattle.n41_small_world.proofs.Leading.{led_empty, led_none, led_room, led_run, led_counted}
 use Rattle.n41_small_world.proofs.orderly.+lead.Goals as goal
 
 pub returns-in_default : goal.returns-in_default
@@ -25,13 +25,13 @@ advance-requires-clause-room t c =
     let l = ap (λ (zs : List Step). length zs) e in
     omega (arith, k, l)
 
-pub advance-requires-clause-tried : goal.advance-requires-clause-tried
-advance-requires-clause-tried t c =
+pub advance-requires-clause-counted : goal.advance-requires-clause-counted
+advance-requires-clause-counted t c =
     let xs = c.args.run.now in
     let ys = take (length xs - 1) (drop 1 xs) in
     let st = c.step-item.result in
     let e = split xs st c.in-len1-up.len_at_least c.step-item.is in
-    led_tried ys c.in_ok-led.led c.in-Some.machine c.in-Some.is c.in_ok-led.ensures
+    led_counted ys c.in_ok-led.led c.in-Some.machine c.in-Some.is c.in_ok-led.ensures
 
 pub returns-then-goes : goal.returns-then-goes
 returns-then-goes t c = λ n f.

@@ -1,7 +1,7 @@
 use Rattle.std.proofs.Common.{◌∷◌, sym, subst}
 use Rattle.std.specs.Bool.{Decides}
 use Rattle.n41_journal.specs.declared.events.Event.{Event}
-use Rattle.n41_model.specs.OneOut.{Orderly}
+use Rattle.n41_calls.specs.OneOut.{Orderly}
 use Rattle.n41_runs.specs.Steps.{client}
 use Rattle.n41_small_world.proofs.OneOut.{put_decides}
 use Rattle.n41_small_world.proofs.orderly.goes.Goals as goal

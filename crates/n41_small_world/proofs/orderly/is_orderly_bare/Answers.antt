@@ -1,5 +1,5 @@
 use Rattle.n41_legal.proofs.Deciding.{same}
-use Rattle.n41_check.proofs.Equal.{request_is}
+use Rattle.n41_equal.proofs.Requests.{request_is}
 use Rattle.n41_runs.specs.Steps.{client}
 use Rattle.n41_small_world.proofs.OneOut.{bare_busy}
 use Rattle.n41_small_world.proofs.orderly.is_orderly_bare.Goals as goal

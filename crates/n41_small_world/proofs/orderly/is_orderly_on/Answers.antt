@@ -1,5 +1,5 @@
 use Rattle.n41_legal.proofs.Deciding.{same}
-use Rattle.n41_check.proofs.Equal.{request_is}
+use Rattle.n41_equal.proofs.Requests.{request_is}
 use Rattle.std.proofs.Common.{Option, sym, ◌∙◌, ap}
 use Rattle.std.specs.Prelude.{option_copied, option_to_list}
 use Rattle.n41_types.specs.declared.plans.Request.{Request}

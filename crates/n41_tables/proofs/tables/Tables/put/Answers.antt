@@ -1,10 +1,17 @@
-use Rattle.std.proofs.Common.{◌+◌, ◌∙◌, ap}
+use Rattle.std.proofs.Common.{◌≡◌, ◌+◌, ◌∙◌, ap, arith}
 use Rattle.std.specs.Vec.{with_items}
 use Rattle.n41_journal.specs.declared.events.Event.TheVariants.{Put}
 use Rattle.n41_view.specs.View.{View}
+use Rattle.n41_view.specs.declared.tables.Facts.{Facts}
 use Rattle.n41_view.specs.Step.{step, put_slot, put_seat}
 use Rattle.n41_tables.proofs.Moved.{ready, with_map, put_moved, owner_is, put_facts_is, tried_room}
 use Rattle.n41_tables.proofs.tables.Tables.put.Goals as goal
+
+pub counted-requires : goal.counted-requires
+counted-requires c =
+    let e : c.put_facts.new.facts.events ≡ c.self.inside.facts.events = ap (λ (f : Facts). f.events) (c.put_facts.ensures c.self.inside.files) in
+    let n : c.self.inside.facts.events ≡ c.args.self.now.facts.events = ap (λ (w : View). w.facts.events) c.self.view_is in
+    omega (arith, e, n, c.requires)
 
 pub put_seats-requires-clause-tried : goal.put_seats-requires-clause-tried
 put_seats-requires-clause-tried c = tried_room c.self.inside c.args.self.now c.deref_mut.result.now c.self.view_is c.self.invariant c.requires c.deref_mut.ensures.value
