@@ -1,9 +1,9 @@
 -- What a turn leaves of moments and counts.
-use Rattle.std.proofs.Common.{◌≡◌, ◌≤◌, ℕ, suc, Bool, List, [], ◌∷◌, ◌++◌, inl, inr, ◌⊎◌, refl, sym, ◌∙◌, ap, subst, arith}
+use Rattle.std.proofs.Common.{◌≡◌, ℕ, Bool, List, inl, inr, sym, ◌∙◌, ap, subst, arith}
 use Rattle.n41_journal.specs.declared.events.Event.{Event}
 use Rattle.n41_wants.specs.declared.wants.Want.{Want}
 use Rattle.n41_wants.specs.declared.wants.Want.TheVariants as want
-use Rattle.n41_core.specs.State.{State, appends}
+use Rattle.n41_core.specs.State.{State}
 use Rattle.n41_desk.specs.Journals.{moments, failures, begun_by}
 use Rattle.n41_desk.specs.Moments.{AreGiven, CountsDials}
 use Rattle.n41_desk.specs.Steps.{Adds, Dials, Reads, Sends, Does, Acts}

@@ -1,5 +1,5 @@
 -- What events leave of what a journal says of a connection.
-use Rattle.std.proofs.Common.{◌≡◌, ◌≢◌, ◌<◌, ◌≤◌, ◌+◌, ◌==◌, ℕ, suc, Bool, true, false, List, [], ◌∷◌, ◌++◌, length, Option, Some, None, if◌then◌else◌, refl, sym, ◌∙◌, ap, subst, arith, append_assoc}
+use Rattle.std.proofs.Common.{◌≡◌, ◌≢◌, ◌<◌, ◌==◌, ℕ, suc, Bool, true, false, List, [], ◌∷◌, ◌++◌, Some, None, if◌then◌else◌, refl, sym, ◌∙◌, arith}
 use Rattle.std.proofs.lemmas.Bool.Decides.{nat_tests}
 use Rattle.n41_types.specs.declared.plans.Request.{Request}
 use Rattle.n41_results.specs.declared.replies.Reply.{Reply}
@@ -10,7 +10,7 @@ use Rattle.n41_calls.specs.Kept.{Kept}
 use Rattle.n41_model.specs.Requests.{standing, dials, takes}
 use Rattle.n41_core.specs.State.{OnlyAnswers}
 use Rattle.n41_desk.specs.Journals.{put_on, taken_on, moments, failures, begun_by}
-use Rattle.n41_desk.specs.Steps.{IsOn, AreOn}
+use Rattle.n41_desk.specs.Steps.{AreOn}
 
 -- ---- choices
 

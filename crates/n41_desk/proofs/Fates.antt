@@ -1,8 +1,7 @@
 -- What events leave of the wires of connections.
-use Rattle.std.proofs.Common.{◌≡◌, ◌≢◌, ◌<◌, ◌≤◌, ◌+◌, ℕ, suc, true, List, [], ◌∷◌, ◌++◌, length, Option, Some, None, inl, inr, ◌⊎◌, refl, sym, ◌∙◌, ap, subst, arith, append_assoc, length-append}
+use Rattle.std.proofs.Common.{◌≡◌, ◌<◌, ◌≤◌, ◌+◌, ℕ, suc, true, List, [], ◌∷◌, ◌++◌, length, Option, Some, None, refl, sym, ◌∙◌, ap, subst, arith, length-append}
 use Rattle.std.proofs.lemmas.Grind.{flat_map-append}
 use Rattle.std.proofs.lemmas.List.{append-nil}
-use Rattle.std.specs.List.{flat_map}
 use Rattle.n41_record.specs.Fragments.{fragment}
 use Rattle.n41_link.specs.declared.connection.Inflow.{Ghosts as InGhosts}
 use Rattle.n41_link.specs.declared.connection.Outflow.{Ghosts as OutGhosts}
@@ -11,20 +10,16 @@ use Rattle.n41_results.specs.declared.messages.Parcel.{Ghosts as ParcelGhosts}
 use Rattle.n41_results.specs.declared.replies.Reply.{Reply}
 use Rattle.n41_journal.specs.declared.events.Cause.{Cause}
 use Rattle.n41_journal.specs.declared.events.Event.{Event}
-use Rattle.n41_journal.specs.declared.events.Event.TheVariants.{Put, Took, Dialed, DialFailed, Broke}
-use Rattle.n41_model.specs.declared.words.Setup.{Setup}
-use Rattle.n41_calls.specs.Kept.{Kept}
-use Rattle.n41_model.specs.Requests.{standing, dials, takes}
+use Rattle.n41_journal.specs.declared.events.Event.TheVariants.{Put, Took, Broke}
+use Rattle.n41_model.specs.Requests.{standing, takes}
 use Rattle.n41_requests.specs.Requests.{spelled}
-use Rattle.n41_core.specs.State.{State, appends}
-use Rattle.n41_wire.specs.Ends.{inlet_log, inlet_replies, inlet_fault, outlet_log, outlet_fault}
+use Rattle.n41_wire.specs.Ends.{inlet_replies, inlet_fault, outlet_log, outlet_fault}
 use Rattle.n41_wire.specs.declared.wire.Wire.{Wire}
 use Rattle.n41_desk.specs.Causes.{BreakCause}
 use Rattle.n41_desk.specs.Journals.{put_on, taken_on}
-use Rattle.n41_desk.specs.Lines.{HasLines, IsStanding}
-use Rattle.n41_desk.specs.Steps.{IsOn, AreOn}
-use Rattle.n41_desk.specs.Wires.{written, IsPrefix, IsOf, IsNew, Carries, Ended, AreEnded}
-use Rattle.n41_desk.proofs.Events.{IsOther, AreOther, IsCalm, AreCalm, put_other, taken_other, put_self, taken_self, calm_other, calmed, on_other, none_put_next, none_taken_next}
+use Rattle.n41_desk.specs.Lines.{HasLines}
+use Rattle.n41_desk.specs.Wires.{written, IsPrefix, IsOf, Carries, Ended, AreEnded}
+use Rattle.n41_desk.proofs.Events.{IsOther, AreOther, AreCalm, put_other, taken_other, put_self, taken_self, calm_other, calmed}
 
 -- ---- a connection that broke
 

@@ -1,11 +1,10 @@
 -- What the two ends of a connection show where they answer.
-use Rattle.std.proofs.Common.{◌≡◌, ◌<◌, ◌≤◌, ◌+◌, ◌-◌, ◌^◌, min, ℕ, zero, suc, Bool, true, false, List, [], ◌∷◌, ◌++◌, length, take, Option, Some, None, Result, Ok, Err, IsTrue, refl, sym, ◌∙◌, ap, subst, arith, length-append}
-use Rattle.std.specs.Prelude.{OnOk, IfErr, IsErrOf}
-use Rattle.n41_record.specs.Fragments.{fragment}
+use Rattle.std.proofs.Common.{◌≡◌, ◌<◌, ℕ, true, List, [], ◌∷◌, ◌++◌, length, Option, Some, None, Result, Ok, Err, refl, sym, ◌∙◌, ap, subst, arith, length-append}
+use Rattle.std.specs.Prelude.{OnOk, IsErrOf}
 use Rattle.n41_record.specs.Gathered.{Gathered}
-use Rattle.n41_record.specs.Streams.{Records, Refused, BeginsWith}
+use Rattle.n41_record.specs.Streams.{BeginsWith}
 use Rattle.n41_link.specs.Counts.{Counts}
-use Rattle.n41_link.specs.Heard.{GivesFirst, GaveAll, Stills, one_more}
+use Rattle.n41_link.specs.Heard.{GivesFirst, GaveAll, Stills}
 use Rattle.n41_link.specs.Said.{Says}
 use Rattle.n41_link.specs.declared.connection.Inflow.{Ghosts as InGhosts}
 use Rattle.n41_link.specs.declared.connection.Outflow.{Ghosts as OutGhosts}
@@ -27,7 +26,7 @@ use Rattle.n41_wire.specs.declared.fault.InFault.{InFault}
 use Rattle.n41_wire.specs.declared.fault.InFault.TheVariants.{Failed, Gather, Garbled, NoMemory}
 use Rattle.n41_wire.specs.declared.inlet.Inlet.{Inlet}
 use Rattle.n41_wire.specs.declared.outlet.Outlet.{Outlet}
-use Rattle.n41_desk.specs.Causes.{EndsBehind, PassesBehind, GarblesBehind}
+use Rattle.n41_desk.specs.Causes.{EndsBehind}
 use Rattle.n41_desk.specs.Shown.{Shows, Tells}
 
 -- ---- faults

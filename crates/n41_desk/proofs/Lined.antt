@@ -1,5 +1,5 @@
 -- What a turn leaves of all connections.
-use Rattle.std.proofs.Common.{◌≡◌, ◌≢◌, ◌<◌, ◌≤◌, ◌+◌, ◌-◌, ◌^◌, min, ℕ, suc, true, false, List, [], ◌∷◌, ◌++◌, length, Option, Some, None, inl, inr, ◌⊎◌, refl, sym, ◌∙◌, ap, subst, arith, length-append}
+use Rattle.std.proofs.Common.{◌≡◌, ◌≢◌, ◌<◌, ◌≤◌, ◌+◌, ◌-◌, ◌^◌, ℕ, suc, true, List, [], ◌∷◌, ◌++◌, length, Option, Some, None, inl, inr, ◌⊎◌, refl, sym, ◌∙◌, ap, subst, arith, length-append}
 use Rattle.std.proofs.lemmas.Bool.{cases_lt}
 use Rattle.std.specs.Prelude.{All}
 use Rattle.n41_link.specs.Counts.{Counts, Rose}
@@ -14,17 +14,15 @@ use Rattle.n41_journal.specs.declared.events.Event.TheVariants.{Dialed, DialFail
 use Rattle.n41_model.specs.declared.words.Setup.{Setup}
 use Rattle.n41_calls.specs.Kept.{Kept}
 use Rattle.n41_model.specs.Requests.{standing, dials}
-use Rattle.n41_core.specs.State.{State, appends}
+use Rattle.n41_core.specs.State.{State}
 use Rattle.n41_wire.specs.Ends.{inlet_inflow}
 use Rattle.n41_wire.specs.Logs.{StandFirst}
 use Rattle.n41_wire.specs.declared.wire.Wire.{Wire}
-use Rattle.n41_desk.specs.Journals.{put_on, taken_on, failures, moments}
+use Rattle.n41_desk.specs.Journals.{failures}
 use Rattle.n41_desk.specs.Lines.{HasLines, StaysQuiet}
 use Rattle.n41_desk.specs.Moments.{CountsDials}
 use Rattle.n41_desk.specs.Steps.{Adds, Reads}
-use Rattle.n41_desk.specs.Wires.{written, IsNew, Carries, Ended, Fares, AreEnded}
-use Rattle.n41_desk.specs.declared.breaking.Fate.{Fate}
-use Rattle.n41_desk.specs.declared.breaking.Fate.TheVariants as fate
+use Rattle.n41_desk.specs.Wires.{written, IsNew, Carries, Ended, AreEnded}
 use Rattle.n41_desk.proofs.Events.{AreOther, on_other, left, none_put_next, none_taken_next}
 use Rattle.n41_desk.proofs.Fates.{all_after, all_more}
 

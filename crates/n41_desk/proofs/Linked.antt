@@ -1,8 +1,7 @@
 -- What a turn on the connection that stands comes to.
-use Rattle.std.proofs.Common.{◌≡◌, ◌≢◌, ◌<◌, ◌≤◌, ◌+◌, ◌-◌, ◌^◌, min, ℕ, suc, true, false, List, [], ◌∷◌, ◌++◌, length, take, drop, Option, Some, None, Result, Ok, Err, inl, inr, ◌⊎◌, refl, sym, ◌∙◌, ap, subst, arith, append_assoc}
+use Rattle.std.proofs.Common.{◌≡◌, ◌≢◌, ◌-◌, ◌^◌, min, ℕ, true, false, List, [], ◌∷◌, ◌++◌, length, take, drop, Option, Some, None, Result, Ok, Err, inl, inr, ◌⊎◌, refl, sym, ◌∙◌, ap, subst, append_assoc}
 use Rattle.std.specs.Prelude.{IsSome, All}
 use Rattle.std.proofs.lemmas.List.{take-append-drop}
-use Rattle.std.proofs.lemmas.List.{append-nil}
 use Rattle.n41_record.specs.Fragments.{fragment}
 use Rattle.n41_link.specs.Counts.{Counts, Rose}
 use Rattle.n41_link.specs.Flow.{KnownAs}
@@ -16,17 +15,15 @@ use Rattle.n41_results.specs.declared.replies.Reply.{Reply}
 use Rattle.n41_journal.specs.declared.events.Cause.{Cause}
 use Rattle.n41_journal.specs.declared.events.Cause.TheVariants as cause
 use Rattle.n41_journal.specs.declared.events.Event.{Event}
-use Rattle.n41_journal.specs.declared.events.Event.TheVariants.{Put, Took, Dialed, DialFailed, Broke}
+use Rattle.n41_journal.specs.declared.events.Event.TheVariants.{Put, Took, Broke}
 use Rattle.n41_model.specs.declared.words.Item.{Item}
 use Rattle.n41_model.specs.declared.words.Setup.{Setup}
 use Rattle.n41_calls.specs.Due.{due, NothingDue}
-use Rattle.n41_calls.specs.Kept.{Kept, IsOld}
-use Rattle.n41_model.specs.Requests.{standing, dials, takes}
+use Rattle.n41_model.specs.Requests.{standing}
 use Rattle.n41_replies.specs.Replies.{IsSpellable}
 use Rattle.n41_requests.specs.Requests.{spelled}
-use Rattle.n41_core.specs.Causes.{ShapeCause}
-use Rattle.n41_core.specs.State.{State, Sent, HasPut, OnlyAnswers, AddsAnswers, ThenAnswers, TakesReply, appends}
-use Rattle.n41_wire.specs.Ends.{inlet_conn, inlet_log, inlet_replies, inlet_fault, inlet_inflow, outlet_log, outlet_fault, outlet_outflow}
+use Rattle.n41_core.specs.State.{State, Sent, HasPut, appends}
+use Rattle.n41_wire.specs.Ends.{inlet_conn, inlet_log, inlet_replies, inlet_fault, inlet_inflow, outlet_log, outlet_outflow}
 use Rattle.n41_wire.specs.Got.{in_quiet}
 use Rattle.n41_wire.specs.Logs.{StandFirst}
 use Rattle.n41_wire.specs.declared.arrival.InGot.{InGot}
@@ -40,8 +37,8 @@ use Rattle.n41_desk.specs.Causes.{BreakCause}
 use Rattle.n41_desk.specs.Follows.{Follows, Answers, BreaksBy, IsNextHere}
 use Rattle.n41_desk.specs.Journals.{put_on, taken_on}
 use Rattle.n41_desk.specs.Shown.{Shows, Tells}
-use Rattle.n41_desk.specs.Steps.{IsOn, AreOn, Adds, Takes, Reads, Sends, TakesOrBreaks, ByOld}
-use Rattle.n41_desk.specs.Wires.{written, IsPrefix, IsOf, Carries, Ended, Fares}
+use Rattle.n41_desk.specs.Steps.{AreOn, Adds, Reads, Sends, TakesOrBreaks, ByOld}
+use Rattle.n41_desk.specs.Wires.{written, IsPrefix, IsOf, Carries, Fares}
 use Rattle.n41_desk.specs.declared.breaking.Fate.{Fate}
 use Rattle.n41_desk.specs.declared.breaking.Fate.TheVariants as fate
 use Rattle.n41_desk.proofs.Events.{answers_calm, answers_on, put_self}

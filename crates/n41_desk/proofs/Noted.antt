@@ -1,5 +1,5 @@
 -- What a moment that is noted leaves, and which moments were given.
-use Rattle.std.proofs.Common.{◌≡◌, ◌<◌, ◌≤◌, ℕ, zero, suc, Bool, true, false, List, [], ◌∷◌, ◌++◌, Option, Some, None, IsTrue, inl, inr, ◌⊎◌, if◌then◌else◌, refl, sym, ◌∙◌, ap, subst, arith}
+use Rattle.std.proofs.Common.{◌≡◌, ℕ, suc, Bool, true, false, List, [], ◌∷◌, ◌++◌, Option, Some, None, IsTrue, inl, inr, ◌⊎◌, if◌then◌else◌, refl, sym, ◌∙◌, ap, subst, arith}
 use Rattle.std.specs.Prelude.{nat_lt, Result, Ok, Err, OnOk, OnErr}
 use Rattle.std.proofs.lemmas.Bool.Decides.{nat_tests}
 use Rattle.n41_types.specs.declared.commands.Command.{Command}
@@ -13,7 +13,7 @@ use Rattle.n41_core.specs.State.{State, OnlyAnswers, AddsAnswers, ThenAnswers, m
 use Rattle.n41_desk.specs.Journals.{moments}
 use Rattle.n41_desk.specs.Moments.{AreGiven}
 use Rattle.n41_desk.specs.Steps.{Notes}
-use Rattle.n41_desk.proofs.Events.{IsCalm, AreCalm, answers_calm}
+use Rattle.n41_desk.proofs.Events.{AreCalm, answers_calm}
 
 -- ---- calm growth
 

@@ -1,13 +1,12 @@
 -- What becomes of a connection, where a reply is taken or not.
-use Rattle.std.proofs.Common.{◌≡◌, ◌≢◌, ◌<◌, ◌≤◌, ◌+◌, ◌-◌, ◌^◌, min, ℕ, Bool, true, false, List, Option, Some, None, inl, inr, ◌⊎◌, refl, sym, ◌∙◌, arith}
+use Rattle.std.proofs.Common.{◌≡◌, ◌<◌, ◌^◌, ℕ, Bool, true, false, Some, inl, inr, refl, arith}
 use Rattle.n41_link.specs.Heard.{capped}
 use Rattle.n41_results.specs.declared.messages.Heard.TheVariants as heard
 use Rattle.n41_results.specs.declared.replies.Reply.{Reply}
 use Rattle.n41_results.specs.declared.shapes.Shape.{Shape}
 use Rattle.n41_model.specs.Requests.{standing, takes}
-use Rattle.n41_core.specs.Causes.{PlaceFault, ReplyCause, IsMisplaced, ShapeBreak, MemoryBreak}
+use Rattle.n41_core.specs.Causes.{ReplyCause}
 use Rattle.n41_core.specs.State.{State, HasTaken}
-use Rattle.n41_core.specs.declared.faults.TookFault.{TookFault}
 use Rattle.n41_core.specs.declared.faults.TookFault.TheVariants as took
 use Rattle.n41_desk.specs.Steps.{TakesOrBreaks}
 use Rattle.n41_desk.specs.declared.breaking.Fate.TheVariants as fate

@@ -1,5 +1,5 @@
 -- What a journal says of each connection, of moments, of dials and of commands. A journal is a list of events, the newest first. (own)
-use Rattle.std.specs.Prelude.{ℕ, suc, ◌==◌, Bool, List, [], ◌∷◌, ◌++◌, if◌then◌else◌}
+use Rattle.std.specs.Prelude.{ℕ, suc, ◌==◌, List, [], ◌∷◌, ◌++◌, if◌then◌else◌}
 use Rattle.n41_types.specs.declared.commands.Command.{Command}
 use Rattle.n41_types.specs.declared.plans.Request.{Request}
 use Rattle.n41_results.specs.declared.replies.Reply.{Reply}

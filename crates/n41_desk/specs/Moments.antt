@@ -1,7 +1,7 @@
 -- Moments and dials of a journal, beside what a clock and a dialer tell. (own)
-use Rattle.std.specs.Prelude.{◌≡◌, ◌⊎◌, ◌≤◌, ◌+◌, ◌-◌, ◌^◌, ℕ, Bool, IsTrue, List, [], ◌∷◌}
+use Rattle.std.specs.Prelude.{◌⊎◌, ◌≤◌, ◌+◌, ◌-◌, ◌^◌, ℕ, Bool, IsTrue, List, [], ◌∷◌}
 use Rattle.n41_journal.specs.declared.events.Event.{Event}
-use Rattle.n41_desk.specs.Journals.{moments, failures}
+use Rattle.n41_desk.specs.Journals.{failures}
 
 -- each of these moments was given
 abbrev pub AreGiven : (ℕ → Bool) → List ℕ → Type 0

@@ -1,22 +1,19 @@
 -- What steps of a desk leave of the commands that began.
-use Rattle.std.proofs.Common.{◌≡◌, ◌≢◌, ◌⊎◌, inl, inr, ℕ, suc, ◌==◌, ◌<◌, Bool, true, false, List, [], ◌∷◌, ◌++◌, Option, Some, None, if◌then◌else◌, refl, sym, ◌∙◌, ap, subst, arith}
+use Rattle.std.proofs.Common.{◌≡◌, ◌≢◌, ◌⊎◌, inl, inr, ℕ, suc, ◌==◌, Bool, true, false, List, [], ◌∷◌, ◌++◌, Option, Some, None, if◌then◌else◌, refl, sym, ◌∙◌, ap, subst, arith}
 use Rattle.std.proofs.lemmas.Bool.Decides.{nat_tests}
 use Rattle.std.specs.Prelude.{nat_lt, nat_le, is_some}
-use Rattle.n41_types.specs.declared.commands.Answer.TheVariants.{Breach}
 use Rattle.n41_types.specs.declared.commands.Command.{Command}
 use Rattle.n41_types.specs.declared.plans.Request.{Request}
-use Rattle.n41_results.specs.declared.replies.Reply.{Reply}
 use Rattle.n41_journal.specs.declared.events.Cause.{Cause}
 use Rattle.n41_journal.specs.declared.events.Event.{Event}
-use Rattle.n41_journal.specs.declared.events.Event.TheVariants.{Began, Put, Took, CbTook, CbPut, Dialed, DialFailed, Broke, Ticked, Answered, Quit}
-use Rattle.n41_model.specs.declared.words.Setup.{Setup}
+use Rattle.n41_journal.specs.declared.events.Event.TheVariants.{Put, Took, Dialed, DialFailed, Broke, Ticked, Answered}
 use Rattle.n41_calls.specs.Answers.{breach_at}
 use Rattle.n41_calls.specs.Calls.{command, number}
 use Rattle.n41_model.specs.Requests.{quit, moment, dials}
 use Rattle.n41_wants.specs.declared.wants.Want.{Want}
 use Rattle.n41_wants.specs.declared.wants.Want.TheVariants as want
 use Rattle.n41_core.specs.Causes.{post_fault}
-use Rattle.n41_core.specs.State.{State, OnlyAnswers, ThenAnswers, appends, begun, met, posted, ticked}
+use Rattle.n41_core.specs.State.{State, OnlyAnswers, ThenAnswers, appends, begun, met, ticked}
 use Rattle.n41_core.specs.declared.faults.PostFault.{PostFault}
 use Rattle.n41_core.specs.declared.faults.PostFault.TheVariants as post
 use Rattle.n41_core.specs.declared.faults.Ticket.{Ticket}

@@ -1,5 +1,5 @@
 -- A run that has ended, whose unanswered commands go on: there is none.
-use Rattle.std.proofs.Common.{◌≡◌, ◌⊎◌, inl, inr, ℕ, zero, suc, ◌<◌, ◌≤◌, Bool, true, false, ◌&&◌, ◌||◌, List, [], ◌∷◌, Option, Some, None, if◌then◌else◌, refl, sym, ◌∙◌, ap, subst, arith}
+use Rattle.std.proofs.Common.{◌≡◌, inl, inr, ℕ, zero, suc, ◌<◌, Bool, true, false, ◌&&◌, ◌||◌, List, [], ◌∷◌, Option, Some, None, if◌then◌else◌, refl, subst, arith}
 use Rattle.std.proofs.lemmas.Bool.{cases_lt}
 use Rattle.std.proofs.lemmas.Bool.Decides.{nat_tests}
 use Rattle.std.specs.Prelude.{is_none, nat_le}
@@ -23,8 +23,8 @@ use Rattle.n41_calls.specs.Calls.{command, all_answered}
 use Rattle.n41_calls.specs.Due.{finishing, has_ended, is_dead, is_over, phase_now}
 use Rattle.n41_model.specs.Replies.{is_breach, is_bare_breach, verdict_of, bare_verdict_of}
 use Rattle.n41_model.specs.Requests.{quit, rounds, request, retried, verdict, verdict_in, verdict_on, bare_verdict, bare_verdict_on, is_bare_use}
-use Rattle.n41_model.specs.Sessions.{phase, phases, session, client, took_phase, slot_phase, bare_phase, dialed_phase, broke_phase, worked, is_lease_time, plan_of, plan_in}
-use Rattle.n41_core.specs.Settled.{IsDone, IsDecided, GoesOn}
+use Rattle.n41_model.specs.Sessions.{phases, session, client, took_phase, slot_phase, bare_phase, dialed_phase, broke_phase, worked, is_lease_time, plan_in}
+use Rattle.n41_core.specs.Settled.{IsDone, IsDecided}
 use Rattle.n41_drive.specs.Drives.{IsAnswered}
 
 -- ---- phases of a run in which no reply broke the rules

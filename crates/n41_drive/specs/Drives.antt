@@ -1,5 +1,5 @@
 -- Callers that work through a script: what each was given, and what it began. (own)
-use Rattle.std.specs.Prelude.{◌≡◌, ◌<◌, ℕ, ◌==◌, true, List, [], ◌∷◌, take, length, slice_get, slice_index, if◌then◌else◌, IsSome, None, Some}
+use Rattle.std.specs.Prelude.{◌≡◌, ◌<◌, ℕ, ◌==◌, true, List, [], ◌∷◌, take, length, slice_get, slice_index, if◌then◌else◌, None, Some}
 use Rattle.n41_types.specs.declared.commands.Command.{Command}
 use Rattle.n41_journal.specs.declared.events.Event.{Event}
 use Rattle.n41_calls.specs.Calls.{command}

@@ -1,4 +1,4 @@
-use Rattle.std.proofs.Common.{◌≡◌, ◌≤◌, ℕ, length, arith}
+use Rattle.std.proofs.Common.{◌≤◌, length, arith}
 use Rattle.n41_requests.specs.Requests.{spelled, most_of}
 use Rattle.n41_desk.proofs.Linked.{says, sends, put_something}
 use Rattle.n41_desk.proofs.saying.say.Goals as goal

@@ -1,5 +1,4 @@
 use Rattle.std.proofs.Common.{◌≡◌, ◌∙◌, arith}
-use Rattle.n41_types.specs.declared.commands.Command.{Command}
 use Rattle.n41_drive.proofs.Given.{is_within, built_next, begun_next}
 use Rattle.n41_drive.proofs.Begun.{left_maybe, begun_self, begun_other, posts_begun, posts_noted}
 use Rattle.n41_drive.proofs.driving.post_next.Goals as goal
