@@ -1,5 +1,5 @@
 ghost use Rattle.std.specs.Prelude.{OnOk};
-ghost use Rattle.n41_requests.specs.Requests.{IsSpellable};
+ghost use Rattle.n41_requests.specs.Requests.{IsSpellable, IsSpellablePlan};
 ghost use Rattle.n41_tellable.specs.Tellable.{IsTellable, AllTellable};
 
 use n41_cbmsg::{read_answer, read_call};
@@ -9,8 +9,8 @@ use n41_journal_text::journal_text;
 use n41_replies::read_reply;
 use n41_tellable::replies_that_are_read_are_tellable;
 use n41_types::{
-    Answer, Bytes, Command, Label, Loss, NoMemory, Place, Plan, Request, SessionId, SlotUse,
-    Status, Texts, Value,
+    Answer, Bytes, Claim, Command, Fh, Label, Loss, Mode, Name, NoMemory, Owner, Path, Place, Plan,
+    Request, Sequence, SessionId, SlotUse, Stateid, Status, Texts, Value,
 };
 use std::alloc::Global;
 
@@ -163,7 +163,79 @@ fn names_come_back(rt: HostRuntime) -> Result<(), NoMemory> {
     Ok(())
 }
 
-fn look() -> Request
+fn label(alloc: Global) -> Result<Label, NoMemory> {
+    Ok(Label::new(Bytes::copy_from_slice(alloc, b"h1")?))
+}
+
+fn path(alloc: Global) -> Result<Path, NoMemory> {
+    let mut path = Vec::new(alloc);
+    if let Ok(name) = Name::of(alloc, b"a%") {
+        path.push(name)?;
+    }
+    Sequence::from_vec(alloc, path)
+}
+
+fn is_command_kept(alloc: Global, command: Command) -> Result<bool, NoMemory> {
+    let began = Event::Began {
+        caller: 1,
+        number: 12,
+        command,
+        moment: 6,
+    };
+    is_kept(alloc, began)
+}
+
+#[test]
+fn commands_that_open_come_back(rt: HostRuntime) -> Result<(), NoMemory> {
+    let alloc = rt.alloc();
+    for guarded in [false, true] {
+        let create = Command::Create {
+            label: label(alloc)?,
+            path: path(alloc)?,
+            guarded,
+        };
+        assert!(rt; is_command_kept(alloc, create)?);
+    }
+    for mode in [Mode::Read, Mode::Write, Mode::Both] {
+        let open = Command::OpenFile {
+            label: label(alloc)?,
+            path: path(alloc)?,
+            mode,
+        };
+        assert!(rt; is_command_kept(alloc, open)?);
+    }
+    Ok(())
+}
+
+#[test]
+fn commands_on_files_come_back(rt: HostRuntime) -> Result<(), NoMemory> {
+    let alloc = rt.alloc();
+    let read = Command::Read {
+        label: label(alloc)?,
+        offset: u64::MAX,
+        count: 65_536,
+    };
+    assert!(rt; is_command_kept(alloc, read)?);
+    let write = Command::Write {
+        label: label(alloc)?,
+        offset: 0,
+        bytes: Bytes::copy_from_slice(alloc, b"\x00\xaf")?,
+    };
+    assert!(rt; is_command_kept(alloc, write)?);
+    let truncate = Command::Truncate {
+        label: label(alloc)?,
+        size: u64::MAX,
+    };
+    assert!(rt; is_command_kept(alloc, truncate)?);
+    let close = Command::Close {
+        label: label(alloc)?,
+    };
+    assert!(rt; is_command_kept(alloc, close)?);
+    Ok(())
+}
+
+fn asking(plan: Plan) -> Request
+    requires { IsSpellablePlan plan }
     ensures { IsSpellable result }
 {
     Request {
@@ -178,18 +250,107 @@ fn look() -> Request
             highest: 0,
             cache: false,
         }),
-        plan: Plan::Stat { at: Place::Root },
+        plan,
+    }
+}
+
+fn is_plan_kept(alloc: Global, plan: Plan) -> Result<bool, NoMemory>
+    requires { IsSpellablePlan plan }
+{
+    let put = Event::Put {
+        conn: 1,
+        place: 4,
+        request: asking(plan),
+    };
+    is_kept(alloc, put)
+}
+
+fn filehandle(alloc: Global) -> Result<Fh, NoMemory> {
+    Ok(Fh::new(Bytes::copy_from_slice(alloc, b"\x00\x07")?))
+}
+
+fn owner(alloc: Global) -> Result<Owner, NoMemory> {
+    Ok(Owner::new(Bytes::copy_from_slice(alloc, b"n41.1")?))
+}
+
+fn stateid() -> Stateid {
+    Stateid {
+        seqid: u32::MAX,
+        other: [0, 0, 0, 1, 0, 0, 0, 0, 0, 0, 0, 9],
     }
 }
 
 #[test]
-fn a_request_comes_back(rt: HostRuntime) -> Result<(), NoMemory> {
-    let put = Event::Put {
-        conn: 1,
-        place: 4,
-        request: look(),
+fn requests_that_open_come_back(rt: HostRuntime) -> Result<(), NoMemory> {
+    let alloc = rt.alloc();
+    assert!(rt; is_plan_kept(alloc, Plan::Stat { at: Place::Root })?);
+    for guarded in [false, true] {
+        if let Ok(name) = Name::of(alloc, b"a") {
+            let create = Plan::CreateFile {
+                dir: Place::At(filehandle(alloc)?),
+                name,
+                guarded,
+                owner: owner(alloc)?,
+            };
+            assert!(rt; is_plan_kept(alloc, create)?);
+        }
+    }
+    for mode in [Mode::Read, Mode::Write, Mode::Both] {
+        let open = Plan::OpenAt {
+            fh: filehandle(alloc)?,
+            mode,
+            owner: owner(alloc)?,
+            claim: Claim::Fh,
+        };
+        assert!(rt; is_plan_kept(alloc, open)?);
+    }
+    Ok(())
+}
+
+#[test]
+fn requests_that_close_come_back(rt: HostRuntime) -> Result<(), NoMemory> {
+    let alloc = rt.alloc();
+    let downgrade = Plan::Downgrade {
+        fh: filehandle(alloc)?,
+        stateid: stateid(),
+        mode: Mode::Read,
     };
-    assert!(rt; is_kept(rt.alloc(), put)?);
+    assert!(rt; is_plan_kept(alloc, downgrade)?);
+    let close = Plan::CloseState {
+        fh: filehandle(alloc)?,
+        stateid: stateid(),
+    };
+    assert!(rt; is_plan_kept(alloc, close)?);
+    Ok(())
+}
+
+fn is_write_kept(alloc: Global) -> Result<bool, NoMemory> {
+    let write = Plan::WriteBytes {
+        fh: filehandle(alloc)?,
+        stateid: stateid(),
+        offset: u64::MAX,
+        bytes: Bytes::copy_from_slice(alloc, b"\x00hi")?,
+    };
+    is_plan_kept(alloc, write)
+}
+
+#[test]
+fn requests_on_files_come_back(rt: HostRuntime) -> Result<(), NoMemory> {
+    let alloc = rt.alloc();
+    let read = Plan::Read {
+        fh: filehandle(alloc)?,
+        stateid: stateid(),
+        offset: 1,
+        count: 65_536,
+    };
+    assert!(rt; is_plan_kept(alloc, read)?);
+    assert!(rt; is_write_kept(alloc)?);
+    let resize = Plan::Resize {
+        fh: filehandle(alloc)?,
+        stateid: stateid(),
+        size: 5,
+    };
+    assert!(rt; is_plan_kept(alloc, resize)?);
     Ok(())
 }
 
