@@ -164,12 +164,25 @@ fn comes(alloc: Global, core: &mut Core, place: u64, xid: u32, told: Told) -> bo
     .is_ok()
 }
 
+fn said_by(answer: &Answer) -> Said {
+    match answer {
+        Answer::Done(value) => named(value),
+        _ => Said::Other,
+    }
+}
+
+fn named(value: &Value) -> Said {
+    match value {
+        Value::Opened => Said::Opened,
+        Value::Closed => Said::Closed,
+        _ => Said::Other,
+    }
+}
+
 fn said_to(core: &Core, caller: u32, number: u64) -> Said {
     match core.answer_of(Ticket { caller, number }) {
         None => Said::Nothing,
-        Some((_, Answer::Done(Value::Opened))) => Said::Opened,
-        Some((_, Answer::Done(Value::Closed))) => Said::Closed,
-        Some(_) => Said::Other,
+        Some((_, answer)) => said_by(answer),
     }
 }
 
